@@ -1,0 +1,260 @@
+ghost use Rattle.std.specs.Prelude.{◌≡◌, ◌<◌, ◌≤◌, ◌+◌, ◌-◌, ◌^◌, min, [], Some, None, Ok, IfOk, IsOk, is_err, length};
+ghost use Rattle.std.specs.Io.KnownBytes.{ReadConsumes, WriteAppends, Keeps};
+ghost use Rattle.icet_model.specs.Faults.{HasCause};
+ghost use Rattle.icet_base.specs.Memory.{is_listed, read_answer, write_answer};
+
+use crate::faults::{NoMemory, ReadFault, WriteFault};
+use crate::sink::Sink;
+use crate::source::Source;
+use std::alloc::Global;
+use std::marker::Model;
+
+/// A source in memory that gives at most so many bytes a call and fails at given calls, for tests.
+/// It tells what is left.
+#[derive(Drop)]
+pub struct MemSource {
+    bytes: Vec<u8>,
+    at: usize,
+    most: usize,
+    fails: Vec<u64>,
+    calls: u64,
+    faults: u64,
+}
+
+impl Model for MemSource {
+    ghost use Rattle.std.specs.Prelude.{◌<◌, ◌≤◌, length, drop};
+    ghost use Rattle.icet_base.specs.Memory.{SourceView};
+
+    ghost Value = { SourceView };
+
+    ghost view = { λ s. record { left = drop s.at s.bytes.items; most = s.most; fails = s.fails.items; calls = s.calls; faults = s.faults } };
+
+    ghost invariant = { λ s. (0 < s.most) × (s.at ≤ length s.bytes.items) };
+}
+
+impl MemSource {
+    /// A source of these bytes. A call gives at most `most` of them; the calls whose numbers, from 0,
+    /// stand in `fails` fail.
+    pub fn new(bytes: Vec<u8>, most: usize, fails: Vec<u64>) -> MemSource
+        requires { 0 < most }
+        ensures { result ≡ record { left = bytes.items; most = most; fails = fails.items; calls = 0; faults = 0 } }
+    {
+        MemSource {
+            bytes,
+            at: 0,
+            most,
+            fails,
+            calls: 0,
+            faults: 0,
+        }
+    }
+}
+
+impl Source for MemSource {
+    ghost left = { λ s. Some s.left };
+
+    ghost faults = { λ s. s.faults };
+
+    fn read(&mut self, buf: &mut [u8]) -> Result<usize, ReadFault>
+        requires { 0 < length buf.old }
+        ensures count { IfOk result (λ n. n ≤ length buf.old) }
+        ensures bytes { ReadConsumes (Some self.old.left) (Some self.new.left) result buf.new }
+        ensures cause { HasCause self.old.faults self.new.faults result }
+        ensures answer { result ≡ read_answer self.old (length buf.old) }
+        ensures calls { self.new.calls ≡ min (self.old.calls + 1) (2 ^ 64 - 1) }
+        ensures same { (self.new.most ≡ self.old.most) × (self.new.fails ≡ self.old.fails) }
+    {
+        let call = self.calls;
+        self.calls = call.saturating_add(1);
+        if self.fails.contains(&call) {
+            self.faults = self.faults.saturating_add(1);
+            return Err(ReadFault);
+        }
+        let n = self.most.min(buf.len()).min(self.bytes.len() - self.at);
+        buf[..n].copy_from_slice(&self.bytes[self.at..self.at + n]);
+        self.at += n;
+        Ok(n)
+    }
+}
+
+/// A sink in memory with room for so many bytes, that takes at most so many a call and fails at given
+/// calls, for tests. It tells what was written.
+#[derive(Drop)]
+pub struct MemSink {
+    bytes: Vec<u8>,
+    room: usize,
+    most: usize,
+    fails: Vec<u64>,
+    calls: u64,
+    faults: u64,
+}
+
+impl Model for MemSink {
+    ghost use Rattle.std.specs.Prelude.{◌<◌, ◌≤◌, ◌+◌, vec_len, vec_capacity};
+    ghost use Rattle.icet_base.specs.Memory.{SinkView};
+
+    ghost Value = { SinkView };
+
+    ghost view = { λ s. record { written = s.bytes.items; room = s.room; most = s.most; fails = s.fails.items; calls = s.calls; faults = s.faults } };
+
+    ghost invariant = { λ s. (0 < s.most) × (vec_len s.bytes + s.room ≤ vec_capacity s.bytes) };
+}
+
+impl MemSink {
+    /// A sink with memory for `room` bytes. A call takes at most `most` of them; the calls of `write`
+    /// and `flush` whose numbers, from 0, stand in `fails` fail, and so does a `write` without room.
+    pub fn new(
+        alloc: Global,
+        room: usize,
+        most: usize,
+        fails: Vec<u64>,
+    ) -> Result<MemSink, NoMemory>
+        requires { 0 < most }
+        ensures { IfOk result (λ s. s ≡ record { written = []; room = room; most = most; fails = fails.items; calls = 0; faults = 0 }) }
+    {
+        let bytes = Vec::with_capacity(alloc, room)?;
+        Ok(MemSink {
+            bytes,
+            room,
+            most,
+            fails,
+            calls: 0,
+            faults: 0,
+        })
+    }
+
+    /// What was written.
+    pub fn bytes(&self) -> &[u8]
+        ensures { result.now ≡ self.now.written }
+    {
+        self.bytes.as_slice()
+    }
+}
+
+impl Sink for MemSink {
+    ghost written = { λ s. Some s.written };
+
+    ghost faults = { λ s. s.faults };
+
+    fn write(&mut self, piece: &[u8]) -> Result<usize, WriteFault>
+        requires { 0 < length piece.now }
+        ensures count { IfOk result (λ n. (0 < n) × (n ≤ length piece.now)) }
+        ensures bytes { WriteAppends (Some self.old.written) (Some self.new.written) result piece.now }
+        ensures cause { HasCause self.old.faults self.new.faults result }
+        ensures answer { result ≡ write_answer self.old (length piece.now) }
+        ensures calls { self.new.calls ≡ min (self.old.calls + 1) (2 ^ 64 - 1) }
+        ensures room { IfOk result (λ n. self.new.room + n ≡ self.old.room) }
+        ensures same { (self.new.most ≡ self.old.most) × (self.new.fails ≡ self.old.fails) }
+    {
+        let call = self.calls;
+        self.calls = call.saturating_add(1);
+        if self.fails.contains(&call) || self.room == 0 {
+            self.faults = self.faults.saturating_add(1);
+            return Err(WriteFault);
+        }
+        let n = self.most.min(piece.len()).min(self.room);
+        match self.bytes.extend_from_slice(&piece[..n]) {
+            Ok(()) => {
+                self.room -= n;
+                Ok(n)
+            }
+            Err(_) => unreachable!(),
+        }
+    }
+
+    fn flush(&mut self) -> Result<(), WriteFault>
+        ensures same { Keeps (Some self.old.written) (Some self.new.written) }
+        ensures cause { HasCause self.old.faults self.new.faults result }
+        ensures answer { is_err result ≡ is_listed self.old.calls self.old.fails }
+        ensures calls { self.new.calls ≡ min (self.old.calls + 1) (2 ^ 64 - 1) }
+        ensures others { (self.new.room ≡ self.old.room) × ((self.new.most ≡ self.old.most) × (self.new.fails ≡ self.old.fails)) }
+    {
+        let call = self.calls;
+        self.calls = call.saturating_add(1);
+        if self.fails.contains(&call) {
+            self.faults = self.faults.saturating_add(1);
+            return Err(WriteFault);
+        }
+        Ok(())
+    }
+}
+
+/// A source in memory that never fails.
+#[derive(Drop)]
+pub struct SureSource {
+    inner: MemSource,
+}
+
+impl Model for SureSource {
+    ghost use Rattle.std.specs.Prelude.{◌≡◌, []};
+    ghost use Rattle.icet_base.specs.Memory.{SureView};
+
+    ghost Value = { SureView };
+
+    ghost view = { λ s. record { left = s.inner.left; most = s.inner.most } };
+
+    ghost invariant = { λ s. s.inner.fails ≡ [] };
+}
+
+impl SureSource {
+    /// A source of these bytes. A call gives at most `most` of them.
+    pub fn new(alloc: Global, bytes: Vec<u8>, most: usize) -> SureSource
+        requires { 0 < most }
+        ensures { result ≡ record { left = bytes.items; most = most } }
+    {
+        SureSource {
+            inner: MemSource::new(bytes, most, Vec::new(alloc)),
+        }
+    }
+}
+
+impl Source for SureSource {
+    ghost left = { λ s. Some s.left };
+
+    ghost faults = { λ _. 0 };
+
+    fn read(&mut self, buf: &mut [u8]) -> Result<usize, ReadFault>
+        requires { 0 < length buf.old }
+        ensures count { IfOk result (λ n. n ≤ length buf.old) }
+        ensures bytes { ReadConsumes (Some self.old.left) (Some self.new.left) result buf.new }
+        ensures cause { HasCause 0 0 result }
+        ensures answer { result ≡ Ok (min (min self.old.most (length buf.old)) (length self.old.left)) }
+        ensures same { self.new.most ≡ self.old.most }
+    {
+        self.inner.read(buf)
+    }
+}
+
+/// A sink that takes each piece whole and keeps nothing.
+#[derive(Clone, Copy, Debug, Drop)]
+pub struct SureSink;
+
+impl SureSink {
+    pub fn new() -> SureSink {
+        SureSink
+    }
+}
+
+impl Sink for SureSink {
+    ghost written = { λ _. None };
+
+    ghost faults = { λ _. 0 };
+
+    fn write(&mut self, piece: &[u8]) -> Result<usize, WriteFault>
+        requires { 0 < length piece.now }
+        ensures count { IfOk result (λ n. (0 < n) × (n ≤ length piece.now)) }
+        ensures bytes { WriteAppends None None result piece.now }
+        ensures cause { HasCause 0 0 result }
+        ensures whole { result ≡ Ok (length piece.now) }
+    {
+        Ok(piece.len())
+    }
+
+    fn flush(&mut self) -> Result<(), WriteFault>
+        ensures same { Keeps None None }
+        ensures cause { HasCause 0 0 result }
+        ensures done { IsOk result }
+    {
+        Ok(())
+    }
+}

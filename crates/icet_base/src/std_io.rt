@@ -1,0 +1,74 @@
+use crate::faults::{ReadFault, WriteFault};
+use crate::sink::Sink;
+use crate::source::Source;
+use std::io::{Read, Write};
+
+/// A source over a reader of std, such as standard input: the trusted edge of reading. It tells what
+/// the reader tells, which is nothing for standard input.
+#[derive(Drop)]
+pub struct StdSource<R: Read + Drop> {
+    inner: R,
+    faults: u64,
+}
+
+impl<R: Read + Drop> StdSource<R> {
+    pub fn new(inner: R) -> StdSource<R> {
+        StdSource { inner, faults: 0 }
+    }
+}
+
+impl<R: Read + Drop> Source for StdSource<R> {
+    ghost left = { λ s. R.remaining s.inner };
+
+    ghost faults = { λ s. s.faults };
+
+    fn read(&mut self, buf: &mut [u8]) -> Result<usize, ReadFault> {
+        match self.inner.read(buf) {
+            Ok(n) => Ok(n),
+            Err(_) => {
+                self.faults = self.faults.saturating_add(1);
+                Err(ReadFault)
+            }
+        }
+    }
+}
+
+/// A sink over a writer of std, such as standard output: the trusted edge of writing. It tells what
+/// the writer tells, which is nothing for standard output.
+#[derive(Drop)]
+pub struct StdSink<W: Write + Drop> {
+    inner: W,
+    faults: u64,
+}
+
+impl<W: Write + Drop> StdSink<W> {
+    pub fn new(inner: W) -> StdSink<W> {
+        StdSink { inner, faults: 0 }
+    }
+}
+
+impl<W: Write + Drop> Sink for StdSink<W> {
+    ghost written = { λ s. W.contents s.inner };
+
+    ghost faults = { λ s. s.faults };
+
+    fn write(&mut self, piece: &[u8]) -> Result<usize, WriteFault> {
+        match self.inner.write(piece) {
+            Ok(n) if n > 0 => Ok(n),
+            _ => {
+                self.faults = self.faults.saturating_add(1);
+                Err(WriteFault)
+            }
+        }
+    }
+
+    fn flush(&mut self) -> Result<(), WriteFault> {
+        match self.inner.flush() {
+            Ok(()) => Ok(()),
+            Err(_) => {
+                self.faults = self.faults.saturating_add(1);
+                Err(WriteFault)
+            }
+        }
+    }
+}

@@ -1,0 +1,4 @@
+pub mod Notes
+pub mod Outcome
+pub mod Reading
+pub mod Statuses

@@ -1,0 +1,24 @@
+-- Lists without a number that stands twice.
+use Rattle.std.proofs.Common.{◌≡◌, ℕ, suc, false, List, [], ◌∷◌, refl, sym, ap, ◌∙◌, arith, ne_eqb}
+use Rattle.std.specs.Prelude.{◌||◌, ◌≢◌, AllPairs}
+use Rattle.std.specs.List.{AllByRecursion, All}
+use Rattle.std.proofs.lemmas.List.Elements.{All-head, All-tail}
+use Rattle.icet_multi.specs.Direct.{has}
+
+-- the relation holds of each element and all later ones
+abbrev pub Apart : {X : Type 0} → (X → X → Type 0) → List X → Type 0
+Apart R [] = Unit {0}
+Apart R (x ∷ xs) = AllByRecursion (R x) xs × Apart R xs
+
+by_recursion : {X : Type 0} (P : X → Type 0) (xs : List X) → All P xs → AllByRecursion P xs
+by_recursion P [] h = tt
+by_recursion P (x ∷ xs) h = (All-head P x xs h, by_recursion P xs (All-tail P x xs h))
+
+pub apart_from_pairs : {X : Type 0} (R : X → X → Type 0) (xs : List X) → AllPairs R xs → Apart R xs
+apart_from_pairs R [] h = tt
+apart_from_pairs R (x ∷ xs) h = (by_recursion (R x) xs (λ i d l. h 0 (suc i) d (omega arith) (omega arith)), apart_from_pairs R xs (λ i j d l m. h (suc i) (suc j) d (omega arith) (omega arith)))
+
+-- a number that differs from all isn't one of them
+pub has_none : (r : ℕ) (cs : List ℕ) → AllByRecursion (λ c. r ≢ c) cs → has r cs ≡ false
+has_none r [] h = refl
+has_none r (c ∷ cs) h = ap (λ b. b || has r cs) (ne_eqb c r (λ e. h.0 (sym e))) ∙ has_none r cs h.1

@@ -1,0 +1,10 @@
+pub mod DirectSteps
+pub mod Distinct
+pub mod DirectKept
+pub mod DirectMatched
+pub mod DirectPlan
+pub mod DirectRuns
+pub mod Fewness
+pub mod OnTiles
+pub mod OneTile
+pub mod Picked

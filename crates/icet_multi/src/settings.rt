@@ -1,0 +1,21 @@
+/// How the work on several tiles is shared out.
+#[derive(Clone, Copy, Debug, PartialEq, Eq)]
+pub enum Strategy {
+    /// Every contributor to a tile sends its whole image of it to the tile's display.
+    Direct,
+}
+
+/// How one group of ranks joins its images of one tile.
+#[derive(Clone, Copy, Debug, PartialEq, Eq)]
+pub enum Single {
+    /// Neighbours are joined, pair by pair, until one image is left.
+    Tree,
+}
+
+/// What a plan is made by; `k` is the greatest factor of a strategy that splits into groups, from 2 to 64.
+#[derive(Clone, Copy, Debug, PartialEq, Eq)]
+pub struct Settings {
+    pub strategy: Strategy,
+    pub single: Single,
+    pub k: u32,
+}

@@ -1,0 +1,5 @@
+use Rattle.icet_plan.proofs.Pictures.{pixel_flow_is_traffic}
+use Rattle.icet_plan.proofs.laws.traffic_is_flow.Goals as goal
+
+pub returns : goal.returns
+returns x = pixel_flow_is_traffic

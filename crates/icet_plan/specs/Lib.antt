@@ -1,0 +1,4 @@
+pub mod Each
+pub mod Keeps
+pub mod Pairs
+pub mod Samples

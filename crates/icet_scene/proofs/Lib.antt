@@ -1,0 +1,5 @@
+pub mod Values
+pub mod Numbers
+pub mod Pairs
+pub mod Ranges
+pub mod Splits

@@ -1,0 +1,17 @@
+-- Which scenes are lawful: they could be read from some text.
+use Rattle.std.specs.Prelude.{◌≡◌, ℕ, ◌≤◌, ◌<◌, ◌-◌, ◌*◌, All, List, length, map}
+use Rattle.std.specs.List.{range_with_len, sum_by}
+use Rattle.icet_model.specs.Tiles.{TileView}
+use Rattle.icet_raster.specs.declared.shape.Shape.{Shape}
+use Rattle.icet_raster.specs.Shapes.{IsInRange}
+
+-- ranks, order, tiles and shapes are those of a scene
+pub record IsScene (ranks : ℕ) (order : List ℕ) (tiles : List TileView) (shapes : List (ℕ × Shape)) : Type 0 where
+  pub some : 1 ≤ ranks
+  pub few : ranks ≤ 1
+  pub ascending : order ≡ range_with_len 0 ranks
+  pub one : length tiles ≡ 1
+  pub displays : All (λ tile. tile.display < ranks) tiles
+  pub drawers : All (λ shape. shape.0 < ranks) shapes
+  pub in_range : All (λ shape. IsInRange shape.1) shapes
+  pub small : ranks * sum_by (λ tile. tile.area.w * tile.area.h) tiles ≤ 67108864

@@ -1,0 +1,9 @@
+//! Scenes, and their text.
+#![tactic(auto)]
+
+pub mod fault;
+pub mod line;
+pub mod numeral;
+pub mod read;
+pub mod scene;
+pub mod words;

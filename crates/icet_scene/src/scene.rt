@@ -1,0 +1,73 @@
+ghost use Rattle.std.specs.Prelude.{◌≡◌, ◌∷◌, [], IfOk, All, map};
+ghost use Rattle.icet_model.specs.Tiles.{IsTileArea};
+ghost use Rattle.icet_tiles.specs.Layouts.{tile_view};
+ghost use Rattle.icet_scene.specs.Lines.{placed_of};
+ghost use Rattle.icet_model.specs.Jobs.{shapes_of};
+ghost use Rattle.icet_raster.specs.Shapes.{drawing_of, IsInRange};
+
+use icet_base::{Mode, NoMemory, Rank};
+use icet_pixel::Fragment;
+use icet_raster::Shape;
+use icet_tiles::{Layout, Tile};
+use sqlite_items::Items;
+use std::alloc::Global;
+use std::marker::Model;
+
+/// What the renderers of a display draw: the tiles, the ranks and each rank's shapes, in the order of
+/// the text. By depth the order is the ranks ascending.
+#[derive(Drop)]
+pub struct Scene {
+    pub mode: Mode,
+    pub ranks: u32,
+    pub background: Fragment,
+    pub order: Items<Rank>,
+    pub layout: Layout,
+    pub shapes: Items<(Rank, Shape)>,
+}
+
+impl Model for Scene {
+    ghost use Rattle.std.specs.Prelude.{map};
+    ghost use Rattle.icet_model.specs.Scene.{SceneView};
+    ghost use Rattle.icet_scene.specs.Lines.{placed_of};
+    ghost use Rattle.icet_scene.specs.Scenes.{IsScene};
+
+    ghost Value = { SceneView };
+
+    ghost view = { λ s. record { mode = s.mode; ranks = s.ranks; background = s.background; order = s.order; tiles = s.layout; shapes = map placed_of s.shapes } };
+
+    ghost invariant = { λ s. IsScene s.ranks s.order s.layout s.shapes };
+}
+
+impl Scene {
+    /// The shapes of a rank, in the order of the scene.
+    pub fn shapes_of(&self, alloc: Global, rank: Rank) -> Result<Vec<Shape>, NoMemory>
+        ensures shapes { IfOk result (λ shapes. map drawing_of shapes.items ≡ shapes_of self.now.shapes rank) }
+        ensures in_range { IfOk result (λ shapes. All IsInRange shapes.items) }
+    {
+        own_shapes(alloc, self.shapes.as_slice(), rank)
+    }
+
+    /// The tile. Condition: none; every scene has one.
+    pub fn tile(&self) -> Tile
+        ensures tile { self.now.tiles ≡ tile_view result ∷ [] }
+        ensures area { IsTileArea result.area }
+        ensures one_rank { self.now.ranks ≡ 1 }
+    {
+        self.layout.tile(0)
+    }
+}
+
+/// The shapes that the rank draws, in the order given.
+fn own_shapes(alloc: Global, shapes: &[(Rank, Shape)], rank: Rank) -> Result<Vec<Shape>, NoMemory>
+    requires { All (λ shape. IsInRange shape.1) shapes.now }
+    ensures shapes { IfOk result (λ own. map drawing_of own.items ≡ shapes_of (map placed_of shapes.now) rank) }
+    ensures in_range { IfOk result (λ own. All IsInRange own.items) }
+{
+    let mut own = Vec::new(alloc);
+    for (drawer, shape) in shapes {
+        if *drawer == rank {
+            own.push(*shape)?;
+        }
+    }
+    Ok(own)
+}
