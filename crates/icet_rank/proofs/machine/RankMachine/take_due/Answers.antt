@@ -1,0 +1,55 @@
+use Rattle.std.proofs.Common.{refl, ◌≡◌, ◌<◌, rules, arith, length}
+use Rattle.icet_rank.proofs.Now.{named, next_place, next_counter, due_exchange, take_room, take_peer, take_range, take_done, take_waits}
+use Rattle.icet_rank.proofs.Keeps.{written}
+use Rattle.icet_rank.proofs.machine.RankMachine.take_due.Goals as goal
+
+pub place_of-at-requires : goal.place_of-at-requires
+place_of-at-requires g c = rw c.deref.ensures.value (take_peer c.self.invariant c.self.view_is c.requires.due c.requires.kind)
+
+pub take_at-requires-clause-room : goal.take_at-requires-clause-room
+take_at-requires-clause-room g c κs within = rw c.deref_mut.ensures.value (take_room c.self.invariant c.self.view_is c.requires.due c.requires.kind)
+
+pub invariant_of-self : goal.invariant_of-self
+invariant_of-self g c =
+    let p : length c.take_at.new.ports ≡ c.self.inside.inboxes.len = search rules in
+    let missed = rw (c.in-None.is, c.deref_mut.ensures.value) at c.take_at.ensures.none in
+    rw (written c.self.inside.inboxes.len c.take_at.new.ports c.self.inside.inboxes.items p) (take_waits c.self.invariant c.take_at.new.ports missed)
+
+pub fitting-requires : goal.fitting-requires
+fitting-requires g c = take_range c.self.invariant c.self.view_is c.requires.due c.requires.kind
+
+pub index_mut-requires : goal.index_mut-requires
+index_mut-requires g c =
+    let l : c.args.slot < length c.self.inside.slots.items = named c.self.invariant c.self.view_is c.requires.due in
+    grind (arith, l)
+
+pub overflow_add-self : goal.overflow_add-self
+overflow_add-self g c = let l = next_place c.self.invariant c.self.view_is c.requires.due in grind (arith, l)
+
+pub overflow_add-self-in-Some : goal.overflow_add-self-in-Some
+overflow_add-self-in-Some g c = let l = next_counter c.self.invariant c.self.view_is c.requires.due in grind (arith, l)
+
+pub invariant_of-self-in-Some : goal.invariant_of-self-in-Some
+invariant_of-self-in-Some g c =
+    let p : length c.take_at.new.ports ≡ c.self.inside.inboxes.len = search rules in
+    let some = rw (c.in-Some.is, c.deref_mut.ensures.value) at c.take_at.ensures.some in
+    rw (written c.self.inside.inboxes.len c.take_at.new.ports c.self.inside.inboxes.items p)
+    (take_done c.self.invariant c.self.view_is c.requires.due c.requires.kind c.take_at.new.ports c.in-Some.message c.fitting.result (c.fitting.ensures c.self.inside.mode c.self.inside.images) some)
+
+pub returns-in-None-clause-due : goal.returns-in-None-clause-due
+returns-in-None-clause-due g c = due_exchange c.self.invariant c.self.view_is c.requires.due
+
+pub returns-in-Some-clause-due : goal.returns-in-Some-clause-due
+returns-in-Some-clause-due g c = due_exchange c.self.invariant c.self.view_is c.requires.due
+
+pub returns-in-None-clause-pairings : goal.returns-in-None-clause-pairings
+returns-in-None-clause-pairings g c =
+    let p : length c.take_at.new.ports ≡ c.self.inside.inboxes.len = search rules in
+    let kept = rw c.deref_mut.ensures.value at c.take_at.ensures.pairings in
+    rw (written c.self.inside.inboxes.len c.take_at.new.ports c.self.inside.inboxes.items p, ← c.self.view_is) (record { inboxes = kept; outboxes = record { same_peers = refl; same_pairings = refl } })
+
+pub returns-in-Some-clause-pairings : goal.returns-in-Some-clause-pairings
+returns-in-Some-clause-pairings g c =
+    let p : length c.take_at.new.ports ≡ c.self.inside.inboxes.len = search rules in
+    let kept = rw c.deref_mut.ensures.value at c.take_at.ensures.pairings in
+    rw (written c.self.inside.inboxes.len c.take_at.new.ports c.self.inside.inboxes.items p, ← c.self.view_is) (record { inboxes = kept; outboxes = record { same_peers = refl; same_pairings = refl } })

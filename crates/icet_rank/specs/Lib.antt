@@ -1,0 +1,5 @@
+pub mod Fits
+pub mod Machine
+pub mod Moves
+pub mod Samples
+pub mod Steps

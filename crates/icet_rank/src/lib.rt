@@ -1,0 +1,14 @@
+//! One rank as a machine: it does its program, one exchange a step.
+#![tactic(auto)]
+
+pub mod image;
+pub mod machine;
+mod moves;
+mod slots;
+mod sync;
+
+pub use image::Image;
+pub use machine::{Parts, RankMachine, Step, sync_pair};
+
+#[cfg(test)]
+mod tests;
