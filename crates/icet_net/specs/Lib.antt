@@ -1,0 +1,9 @@
+pub mod CloseSteps
+pub mod Closing
+pub mod Counting
+pub mod Drives
+pub mod Net
+pub mod Opening
+pub mod Ranks
+pub mod Syncs
+pub mod Turns

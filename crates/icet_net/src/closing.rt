@@ -1,0 +1,253 @@
+ghost use Rattle.std.specs.Prelude.{◌≡◌, ◌≢◌, ◌<◌, ◌≤◌, ◌+◌, ◌*◌, ◌++◌, ◌∷◌, [], ℕ, IfOk, OnOk, IfErr, OnErr, IfSome, IfNone, Some, length, map, slice_get, vec_capacity};
+ghost use Rattle.std.specs.List.{AllByRecursion, range_with_len};
+ghost use Rattle.std.specs.Option.{ForSome};
+ghost use Rattle.icet_model.specs.Pixel.{Pixel};
+ghost use Rattle.icet_model.specs.Traffic.{traffic};
+ghost use Rattle.icet_collect.specs.Collect.{blank_canvas};
+ghost use Rattle.icet_rank.specs.Moves.{HasPeer, port_to};
+ghost use Rattle.icet_rank.specs.Machine.{IsDone};
+ghost use Rattle.icet_net.specs.Opening.{ports_of};
+ghost use Rattle.icet_net.specs.Ranks.{AreHulls, AreDone, mode_of, images_of, machine_at};
+ghost use Rattle.icet_net.specs.Closing.{IsLowestUndone, pictures_of};
+ghost use Rattle.icet_net.specs.CloseSteps.{AreDistinct, IsClosable, LosesPort, entry_of, IsTaken, AreOnce, AreWanted, IsShowable, AreAllWanted, shown_on};
+
+use crate::hull::Hull;
+use crate::pictures::Pictures;
+use crate::syncing::look_at;
+use icet_base::Rank;
+use icet_collect::Canvas;
+use icet_pixel::Dense;
+use icet_plan::Plan;
+use icet_rank::{Parts, RankMachine};
+use icet_ring::{Inbox, Outbox, Wires};
+use icet_sparse::Sparse;
+
+/// What the close of a net with a rank that isn't done hands back: the lowest such rank, and all else
+/// as it was.
+#[derive(Drop)]
+pub struct Unfinished<W: Wires> {
+    pub rank: Rank,
+    pub hull: Hull<W>,
+    pub ranks: Vec<RankMachine<W::In, W::Out>>,
+}
+
+/// Closes the net: the pictures, one per tile, and a further entry of the log for each pair used.
+/// It takes no memory. Conditions: the ranks are the hull's, and the wires owe a close to each pair.
+///
+/// # Errors
+///
+/// `Unfinished` where a rank isn't done.
+pub fn close_net<W: Wires>(
+    hull: Hull<W>,
+    ranks: Vec<RankMachine<W::In, W::Out>>,
+    wires: &mut W,
+) -> Result<Pictures, Unfinished<W>>
+    requires hulls { AreHulls W.In.pairing W.Out.pairing hull ranks.items }
+    requires owed { length hull.pairs ≤ W.owed wires.old }
+    ensures done { OnOk result (AreDone ranks.items) }
+    ensures pictures { IfOk result (λ p. p ≡ pictures_of hull (mode_of ranks.items) (images_of ranks.items)) }
+    ensures log { OnOk result (W.log wires.new ≡ W.log wires.old ++ traffic (mode_of ranks.items) hull.plan (images_of ranks.items)) }
+    ensures owed { OnOk result (W.owed wires.old ≡ W.owed wires.new + length hull.pairs) }
+    ensures rank { IfErr result (λ u. IsLowestUndone u.rank ranks.items) }
+    ensures hull { IfErr result (λ u. u.hull ≡ hull) }
+    ensures ranks { IfErr result (λ u. u.ranks.items ≡ ranks.items) }
+    ensures same_log { OnErr result (W.log wires.new ≡ W.log wires.old) }
+    ensures same_owed { OnErr result (W.owed wires.new ≡ W.owed wires.old) }
+{
+    match lowest_undone(&ranks) {
+        Some(rank) => Err(Unfinished { rank, hull, ranks }),
+        None => Ok(close_done(hull, ranks, wires)),
+    }
+}
+
+/// The lowest rank that isn't done, if there is one. Condition: the machine at each place has the
+/// place's number.
+fn lowest_undone<I: Inbox, O: Outbox>(ranks: &[RankMachine<I, O>]) -> Option<Rank>
+    requires { (r : ℕ) → r < length ranks.now → (machine_at ranks.now r).number ≡ r }
+    ensures some { IfSome result (λ r. IsLowestUndone r ranks.now) }
+    ensures none { IfNone result (AreDone ranks.now) }
+{
+    'looking: for i in 0..ranks.len() {
+        if !ranks[i].done() {
+            return Some(ranks[i].number());
+        }
+    }
+    None
+}
+
+/// Closes a net all of whose ranks are done.
+fn close_done<W: Wires>(
+    hull: Hull<W>,
+    ranks: Vec<RankMachine<W::In, W::Out>>,
+    wires: &mut W,
+) -> Pictures
+    requires hulls { AreHulls W.In.pairing W.Out.pairing hull ranks.items }
+    requires owed { length hull.pairs ≤ W.owed wires.old }
+    requires done { AreDone ranks.items }
+    ensures pictures { result ≡ pictures_of hull (mode_of ranks.items) (images_of ranks.items) }
+    ensures log { W.log wires.new ≡ W.log wires.old ++ traffic (mode_of ranks.items) hull.plan (images_of ranks.items) }
+    ensures owed { W.owed wires.old ≡ W.owed wires.new + length hull.pairs }
+{
+    look_at(&ranks);
+    let Hull {
+        plan,
+        cap: _,
+        strands: _,
+        sides: _,
+        pairs,
+        canvases,
+        parts,
+        pictures,
+    } = hull;
+    let mut parts = take_apart(ranks, parts);
+    close_pairs(&pairs, &mut parts, wires);
+    Pictures::of(show_all(&plan, canvases, &parts, pictures))
+}
+
+/// What all machines hand out, put into the memory given. Conditions: all are done, and there is
+/// memory for all.
+fn take_apart<I: Inbox, O: Outbox>(
+    ranks: Vec<RankMachine<I, O>>,
+    parts: Vec<Parts<I, O>>,
+) -> Vec<Parts<I, O>>
+    requires done { AllByRecursion IsDone ranks.items }
+    requires memory { length ranks.items ≤ vec_capacity parts }
+    ensures kept { map (λ p. p.kept.items) result.items ≡ map (λ m. m.kept) ranks.items }
+    ensures inboxes { map (λ p. p.inboxes.items) result.items ≡ map (λ m. m.inboxes) ranks.items }
+    ensures outboxes { map (λ p. p.outboxes.items) result.items ≡ map (λ m. m.outboxes) ranks.items }
+{
+    let mut parts = parts;
+    parts.clear();
+    'parting: for machine in ranks {
+        parts.push_reserved(machine.into_parts());
+    }
+    parts
+}
+
+/// Closes the pairs one after the other. Conditions: each is there and can be closed, none is there
+/// twice, and the wires owe a close to each.
+fn close_pairs<W: Wires>(pairs: &[(Rank, Rank)], parts: &mut [Parts<W::In, W::Out>], wires: &mut W)
+    requires owed { length pairs.now ≤ W.owed wires.old }
+    requires distinct { AreDistinct pairs.now }
+    requires closable { (i : ℕ) (p : ℕ × ℕ) → slice_get pairs.now i ≡ Some p → IsClosable W.In.taken W.In.pairing W.Out.sent W.Out.pairing (map (λ p. p.outboxes.items) parts.old) (map (λ p. p.inboxes.items) parts.old) p.0 p.1 }
+    ensures kept { map (λ p. p.kept.items) parts.new ≡ map (λ p. p.kept.items) parts.old }
+    ensures taken { (i : ℕ) (p : ℕ × ℕ) → slice_get pairs.now i ≡ Some p → IsTaken W.In.taken W.Out.sent (map (λ p. p.outboxes.items) parts.old) (map (λ p. p.inboxes.items) parts.old) p }
+    ensures log { W.log wires.new ≡ W.log wires.old ++ map (entry_of W.Out.sent (map (λ p. p.outboxes.items) parts.old)) pairs.now }
+    ensures owed { W.owed wires.old ≡ W.owed wires.new + length pairs.now }
+{
+    'closing: for i in 0..pairs.len() {
+        let pair = pairs[i];
+        close_one(pair.0, pair.1, parts, wires);
+    }
+}
+
+/// Closes one pair. Conditions: it is there and can be closed, and the wires owe a close.
+fn close_one<W: Wires>(from: Rank, to: Rank, parts: &mut [Parts<W::In, W::Out>], wires: &mut W)
+    requires owed { 0 < W.owed wires.old }
+    requires closable { IsClosable W.In.taken W.In.pairing W.Out.sent W.Out.pairing (map (λ p. p.outboxes.items) parts.old) (map (λ p. p.inboxes.items) parts.old) from to }
+    ensures kept { map (λ p. p.kept.items) parts.new ≡ map (λ p. p.kept.items) parts.old }
+    ensures outboxes { LosesPort from to (map (λ p. p.outboxes.items) parts.old) (map (λ p. p.outboxes.items) parts.new) }
+    ensures inboxes { LosesPort to from (map (λ p. p.inboxes.items) parts.old) (map (λ p. p.inboxes.items) parts.new) }
+    ensures taken { IsTaken W.In.taken W.Out.sent (map (λ p. p.outboxes.items) parts.old) (map (λ p. p.inboxes.items) parts.old) (from, to) }
+    ensures log { W.log wires.new ≡ W.log wires.old ++ entry_of W.Out.sent (map (λ p. p.outboxes.items) parts.old) (from, to) ∷ [] }
+    ensures owed { W.owed wires.old ≡ W.owed wires.new + 1 }
+{
+    let out = take_outbox(parts, from, to);
+    let inbox = take_inbox(parts, to, from);
+    wires.close_pair(from, to, out, inbox);
+}
+
+/// Takes the outbox of a rank to a peer out of the parts. Condition: it is there.
+fn take_outbox<I: Inbox, O: Outbox>(parts: &mut [Parts<I, O>], rank: Rank, peer: Rank) -> O
+    requires within { rank < length parts.old }
+    requires there { HasPeer peer (ports_of (map (λ p. p.outboxes.items) parts.old) rank) }
+    ensures port { port_to (ports_of (map (λ p. p.outboxes.items) parts.old) rank) peer ≡ Some result }
+    ensures outboxes { LosesPort rank peer (map (λ p. p.outboxes.items) parts.old) (map (λ p. p.outboxes.items) parts.new) }
+    ensures inboxes { map (λ p. p.inboxes.items) parts.new ≡ map (λ p. p.inboxes.items) parts.old }
+    ensures kept { map (λ p. p.kept.items) parts.new ≡ map (λ p. p.kept.items) parts.old }
+{
+    take_port(&mut parts[rank.0 as usize].outboxes, peer)
+}
+
+/// Takes the inbox of a rank from a peer out of the parts. Condition: it is there.
+fn take_inbox<I: Inbox, O: Outbox>(parts: &mut [Parts<I, O>], rank: Rank, peer: Rank) -> I
+    requires within { rank < length parts.old }
+    requires there { HasPeer peer (ports_of (map (λ p. p.inboxes.items) parts.old) rank) }
+    ensures port { port_to (ports_of (map (λ p. p.inboxes.items) parts.old) rank) peer ≡ Some result }
+    ensures inboxes { LosesPort rank peer (map (λ p. p.inboxes.items) parts.old) (map (λ p. p.inboxes.items) parts.new) }
+    ensures outboxes { map (λ p. p.outboxes.items) parts.new ≡ map (λ p. p.outboxes.items) parts.old }
+    ensures kept { map (λ p. p.kept.items) parts.new ≡ map (λ p. p.kept.items) parts.old }
+{
+    take_port(&mut parts[rank.0 as usize].inboxes, peer)
+}
+
+/// Takes the port to a peer out of the ports. Condition: it is there.
+fn take_port<P: Drop>(ports: &mut Vec<(Rank, P)>, peer: Rank) -> P
+    requires { HasPeer peer ports.old.items }
+    ensures port { port_to ports.old.items peer ≡ Some result }
+    ensures others { (k : ℕ) → k ≢ peer → port_to ports.new.items k ≡ port_to ports.old.items k }
+{
+    let place = first_place(ports, peer);
+    ports.remove(place).1
+}
+
+/// The first place of a port to this peer. Condition: there is one. Pairs are closed ascending, and
+/// ports stand ascending, so it is the first port that is left.
+fn first_place<P>(ports: &[(Rank, P)], peer: Rank) -> usize
+    requires { HasPeer peer ports.now }
+    ensures within { result < length ports.now }
+    ensures first { ForSome (slice_get ports.now result) (λ p. (p.0 ≡ peer) × (port_to ports.now peer ≡ Some p.1)) }
+{
+    for (at, port) in ports.iter().enumerate() {
+        if port.0 == peer {
+            return at;
+        }
+    }
+    unreachable!()
+}
+
+/// The pictures of all tiles, put into the memory given. Conditions: the canvas at each place is the
+/// place's tile's, blank, and the pieces that the tile's display has kept fill it; there is memory for
+/// all pictures.
+fn show_all<I: Inbox, O: Outbox>(
+    plan: &Plan,
+    canvases: Vec<Canvas>,
+    parts: &[Parts<I, O>],
+    pictures: Vec<Dense>,
+) -> Vec<Dense>
+    requires ranks { length parts.now ≡ length plan.now.programs }
+    requires tiles { map (λ c. c.tile) canvases.items ≡ range_with_len 0 (length canvases.items) }
+    requires showable { AllByRecursion (IsShowable (map (λ p. p.kept.items) parts.now) plan.now.tiles) canvases.items }
+    requires memory { length canvases.items ≤ vec_capacity pictures }
+    ensures { (wanted : ℕ → ℕ → Pixel) → AreAllWanted (map (λ p. p.kept.items) parts.now) plan.now.tiles wanted → result.items ≡ map (shown_on wanted) canvases.items }
+{
+    let mut pictures = pictures;
+    pictures.clear();
+    'showing: for canvas in canvases {
+        let tile = pictures.len() as u32;
+        let display = plan.display(tile);
+        let picture = show(tile, canvas, &parts[display.0 as usize].kept);
+        pictures.push_reserved(picture);
+    }
+    pictures
+}
+
+/// The picture of a tile, of the pieces of the tile among those given. Conditions: the canvas is the
+/// tile's and blank, and the pieces hold each of its positions once.
+fn show(tile: u32, canvas: Canvas, kept: &[Sparse]) -> Dense
+    requires blank { canvas ≡ blank_canvas tile canvas.w canvas.h canvas.strands }
+    requires once { AreOnce tile (canvas.w * canvas.h) kept.now }
+    ensures { (wanted : ℕ → Pixel) → AreWanted tile wanted kept.now → result ≡ record { w = canvas.w; h = canvas.h; pixels = map wanted (range_with_len 0 (canvas.w * canvas.h)) } }
+{
+    let mut canvas = canvas;
+    'placing: for i in 0..kept.len() {
+        if kept[i].tile() == tile {
+            canvas.place(&kept[i]);
+        }
+    }
+    if canvas.full() {
+        canvas.finish()
+    } else {
+        unreachable!()
+    }
+}
