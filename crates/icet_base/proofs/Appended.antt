@@ -1,8 +1,8 @@
 -- Known bytes that grow: one piece after the other, and what stays at the front.
-use Rattle.std.proofs.Common.{◌≡◌, ℕ, ◌+◌, ◌-◌, ◌<◌, ◌≤◌, List, [], ◌++◌, length, take, drop, Option, Some, None, Result, Ok, Err, refl, sym, ap, ◌∙◌, subst, arith, append_assoc, append-nil}
+use Rattle.std.proofs.Common.{◌≡◌, ℕ, ◌+◌, ◌-◌, ◌≤◌, List, ◌++◌, length, take, drop, Option, Some, None, Result, Ok, Err, sym, ap, ◌∙◌, subst, arith, append_assoc}
 use Rattle.std.proofs.lemmas.List.{take-append-drop, take-take, length-take, length-drop, take_rest, take-append-le}
 use Rattle.std.proofs.Math.Seq.{take-append_seam, take-length, take-add}
-use Rattle.std.specs.Io.KnownBytes.{Appends, Keeps, append_known, WriteAppends}
+use Rattle.std.specs.Io.KnownBytes.{Appends, Keeps, append_known}
 use Rattle.icet_model.specs.Bytes.{Extends, HasFront}
 use Rattle.icet_base.specs.PenText.{Writing, Puts}
 

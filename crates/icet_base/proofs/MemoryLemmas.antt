@@ -1,7 +1,6 @@
 -- What a source in memory gives.
-use Rattle.std.proofs.Common.{◌≡◌, ℕ, ◌+◌, ◌-◌, ◌<◌, ◌≤◌, List, [], ◌++◌, length, take, drop, min, refl, sym, ap, ◌∙◌, subst, arith, length-drop}
-use Rattle.std.proofs.lemmas.List.{take-append-drop, drop-drop, length-take-le, drop_at, take_at}
-use Rattle.std.specs.List.{slice_range}
+use Rattle.std.proofs.Common.{◌≡◌, ℕ, ◌+◌, ◌≤◌, List, ◌++◌, length, take, drop, sym, ap, ◌∙◌, arith, length-drop}
+use Rattle.std.proofs.lemmas.List.{take-append-drop, drop-drop, length-take-le, take_at}
 
 -- the front of the buffer, and then what is left
 pub read_gives : (bytes copied buf : List ℕ) (at n : ℕ) → at + n ≤ length bytes → copied ≡ take n (drop at bytes) → drop at bytes ≡ take n (copied ++ drop n buf) ++ drop (at + n) bytes

@@ -1,5 +1,5 @@
 -- Sources and sinks in memory: what contracts see of them, and what a call answers.
-use Rattle.std.specs.Prelude.{ℕ, Bool, ◌-◌, ◌==◌, ◌||◌, min, cond, List, length, Result, Ok, Err}
+use Rattle.std.specs.Prelude.{ℕ, Bool, ◌==◌, ◌||◌, min, cond, List, length, Result, Ok, Err}
 use Rattle.std.specs.List.{list_any}
 use Rattle.icet_base.specs.declared.faults.ReadFault.{ReadFault}
 use Rattle.icet_base.specs.declared.faults.WriteFault.{WriteFault}

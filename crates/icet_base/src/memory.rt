@@ -230,7 +230,10 @@ impl Source for SureSource {
 pub struct SureSink;
 
 impl SureSink {
-    pub fn new() -> SureSink {
+    /// A sink that nothing was written to.
+    pub fn new() -> SureSink
+        ensures { result ≡ record {} }
+    {
         SureSink
     }
 }

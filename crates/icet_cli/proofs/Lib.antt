@@ -1,3 +1,3 @@
 pub mod Consumed
-pub mod Single
+pub mod Pictures
 pub mod ThreeWords

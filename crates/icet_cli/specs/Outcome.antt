@@ -1,5 +1,5 @@
 -- What a run of the program leaves, by its status: the promise of the top call.
-use Rattle.std.specs.Prelude.{◌≡◌, ℕ, ◌≤◌, Bool, true, false, List, [], length, Option}
+use Rattle.std.specs.Prelude.{◌≡◌, ℕ, ◌≤◌, true, false, List, length, Option}
 use Rattle.std.specs.Io.KnownBytes.{Keeps, Appends, Consumes, IsAtEnd, append_known}
 use Rattle.icet_model.specs.Bytes.{Extends, HasFront}
 use Rattle.icet_model.specs.Faults.{Rose}
@@ -8,7 +8,7 @@ use Rattle.icet_model.specs.Jobs.{composite_text}
 use Rattle.icet_model.specs.Pixel.{Pixel}
 use Rattle.icet_model.specs.Scene.{SceneView, Text, SceneText, text_is}
 use Rattle.icet_model.specs.Traffic.{PairTraffic}
-use Rattle.icet_model.specs.Words.{is_reading}
+use Rattle.icet_cli.specs.Words.{is_reading}
 use Rattle.icet_cli.specs.Notes.{HasNoted}
 use Rattle.icet_cli.specs.declared.status.Status.{Status}
 use Rattle.icet_cli.specs.declared.status.Status.TheVariants.{Ok, SceneRefused, WordsRefused, ReadFault, WriteFault, NoMemory}

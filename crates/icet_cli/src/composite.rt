@@ -2,22 +2,49 @@ ghost use Rattle.std.specs.Prelude.{◌≡◌, ◌∷◌, [], IfOk};
 ghost use Rattle.icet_model.specs.Faults.{HasCause};
 ghost use Rattle.icet_model.specs.Jobs.{plain_picture, composite_text};
 ghost use Rattle.icet_model.specs.Picture.{picture_text};
-ghost use Rattle.icet_model.specs.Tiles.{TileView};
+ghost use Rattle.icet_model.specs.Tiles.{TileView, area_of, IsTileArea};
 ghost use Rattle.icet_base.specs.PenText.{Puts};
+ghost use Rattle.icet_cli.specs.Pictures.{joined_images, image_of};
 
-use icet_base::{NoMemory, Pen, Rank, Sink, WriteFault};
+use icet_base::{Mode, NoMemory, Pen, Rank, Rect, Sink, WriteFault};
 use icet_pam::write_picture;
-use icet_pixel::Dense;
+use icet_pixel::{Dense, join};
 use icet_raster::draw;
 use icet_scene::scene::Scene;
 use std::alloc::Global;
 
-/// The picture of the scene's tile: the shapes of its one rank.
+/// The picture of the scene's tile: the ranks' images, each joined behind those of the lower ranks.
 pub fn picture_of(alloc: Global, scene: &Scene) -> Result<Dense, NoMemory>
     ensures { IfOk result (λ picture. (tile : TileView) → scene.now.tiles ≡ tile ∷ [] → picture ≡ record { w = tile.area.w; h = tile.area.h; pixels = plain_picture scene.now tile }) }
 {
-    let shapes = scene.shapes_of(alloc, Rank(0))?;
-    draw(alloc, shapes.as_slice(), scene.mode, scene.tile().area)
+    let area = scene.tile().area;
+    let mut picture = Dense::blank(alloc, area.w, area.h)?;
+    for r in 0..scene.ranks() {
+        let image = image_of(alloc, scene, area, Rank(r))?;
+        join_behind(&mut picture, scene.mode, &image);
+    }
+    Ok(picture)
+}
+
+/// A rank's full image of an area.
+fn image_of(alloc: Global, scene: &Scene, area: Rect, rank: Rank) -> Result<Dense, NoMemory>
+    requires { IsTileArea area }
+    ensures { IfOk result (λ image. image ≡ image_of scene.now (area_of area) rank) }
+{
+    let shapes = scene.shapes_of(alloc, rank)?;
+    draw(alloc, shapes.as_slice(), scene.mode, area)
+}
+
+/// Joins an image behind the picture. Condition: it is of the picture's size.
+fn join_behind(picture: &mut Dense, mode: Mode, image: &Dense)
+    requires width { image.now.w ≡ picture.old.w }
+    requires height { image.now.h ≡ picture.old.h }
+    ensures { picture.new ≡ joined_images mode picture.old image.now }
+{
+    for i in 0..picture.width() * picture.height() {
+        let pixel = join(mode, picture.get(i), image.get(i));
+        picture.set(i, pixel);
+    }
 }
 
 /// Writes the text of the job `composite`. Condition: the picture is that of the scene's tile.

@@ -16,6 +16,18 @@ const PICTURE: &[u8] =
 const FOUR: &[u8] =
     b"P7\nWIDTH 2\nHEIGHT 2\nDEPTH 4\nMAXVAL 255\nTUPLTYPE RGB_ALPHA\nENDHDR\n\x04\x00\x00\xff\x00\x00\x00\x00\x00\x00\x00\x00\x01\x00\x00\xff";
 
+/// Two by one pixels, where nothing was drawn.
+const BLANK: &[u8] =
+    b"P7\nWIDTH 2\nHEIGHT 1\nDEPTH 4\nMAXVAL 255\nTUPLTYPE RGB_ALPHA\nENDHDR\n\x00\x00\x00\x00\x00\x00\x00\x00";
+
+/// One pixel, of rank 0.
+const TIE: &[u8] =
+    b"P7\nWIDTH 1\nHEIGHT 1\nDEPTH 4\nMAXVAL 255\nTUPLTYPE RGB_ALPHA\nENDHDR\n\x01\x01\x01\xff";
+
+/// Two by two pixels: of rank 2, of rank 1, of rank 0 and of none.
+const THREE_RANKS: &[u8] =
+    b"P7\nWIDTH 2\nHEIGHT 2\nDEPTH 4\nMAXVAL 255\nTUPLTYPE RGB_ALPHA\nENDHDR\n\x03\x00\x00\xff\x02\x00\x00\xff\x01\x00\x00\xff\x00\x00\x00\x00";
+
 /// A whole run over memory: its status, what was written, and what was noted.
 fn outcome<R: Threads + Sync>(
     rt: &R,
@@ -46,6 +58,42 @@ fn each_scene_gets_its_picture_or_its_line(rt: HostRuntime) -> Result<(), Fail> 
             Status::Ok,
             FOUR,
             "",
+        ),
+        (
+            "icet-scene 1\nmode depth\nranks 2\ntile 0 0 1 1 0\npoint 1 0 0 7 2 2 2 255\npoint 0 0 0 7 1 1 1 255\nend\n",
+            Status::Ok,
+            TIE,
+            "",
+        ),
+        (
+            "icet-scene 1\nmode depth\nranks 3\ntile 5 5 2 1 2\nend\n",
+            Status::Ok,
+            BLANK,
+            "",
+        ),
+        (
+            "icet-scene 1\nmode depth\nranks 3\ntile 0 0 2 2 1\npoint 0 0 0 9 1 0 0 255\npoint 0 0 1 4 1 0 0 255\npoint 1 0 0 8 2 0 0 255\npoint 1 1 0 4 2 0 0 255\npoint 2 0 0 7 3 0 0 255\npoint 2 1 0 4 3 0 0 255\npoint 2 0 1 5 3 0 0 255\nend\n",
+            Status::Ok,
+            THREE_RANKS,
+            "",
+        ),
+        (
+            "icet-scene 1\nmode depth\nranks 65\ntile 0 0 1 1 0\nend\n",
+            Status::SceneRefused,
+            b"",
+            "icet: line 3: not built yet\n",
+        ),
+        (
+            "icet-scene 1\nmode depth\nranks 0\ntile 0 0 1 1 0\nend\n",
+            Status::SceneRefused,
+            b"",
+            "icet: line 3: not built yet\n",
+        ),
+        (
+            "icet-scene 1\nmode depth\nranks 2\ntile 0 0 1 1 2\nend\n",
+            Status::SceneRefused,
+            b"",
+            "icet: line 4: not built yet\n",
         ),
         (
             "icet-scene 1\nmode blend\nranks 1\ntile 0 0 1 1 0\npoint 0 0 0 7 10 20 30 255\nend\n",

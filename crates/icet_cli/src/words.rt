@@ -1,6 +1,6 @@
 ghost use Rattle.std.specs.Prelude.{◌≡◌, ◌&&◌, codes, map};
 ghost use Rattle.icet_model.specs.Scene.{is_word};
-ghost use Rattle.icet_model.specs.Words.{is_reading};
+ghost use Rattle.icet_cli.specs.Words.{is_reading};
 
 /// Whether the words are a command: `composite --strategy direct`, and nothing else.
 pub fn is_reading(words: &[&str]) -> bool

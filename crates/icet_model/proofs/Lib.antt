@@ -1,1 +1,3 @@
+pub mod Decimals
 pub mod Nearest
+pub mod NearestLeaf

@@ -1,5 +1,5 @@
 -- Brackets: their leaves, their value over images, and the fold from the left.
-use Rattle.std.specs.Prelude.{◌≡◌, ℕ, List, [], ◌∷◌, ◌++◌, get_or, None}
+use Rattle.std.specs.Prelude.{ℕ, List, [], ◌∷◌, ◌++◌, get_or, None}
 use Rattle.icet_model.specs.declared.names.Mode.{Mode}
 use Rattle.icet_model.specs.declared.bracket.Bracket.{Bracket, Empty, Leaf, Pair', more_of-Bracket}
 use Rattle.icet_model.specs.Pixel.{Pixel, joined}

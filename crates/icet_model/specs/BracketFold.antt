@@ -1,7 +1,7 @@
 -- Brackets over a list of leaves.
-use Rattle.std.specs.Prelude.{ℕ, List, [], ◌∷◌}
+use Rattle.std.specs.Prelude.{List, [], ◌∷◌}
 use Rattle.icet_model.specs.declared.bracket.Bracket.{Bracket}
-use Rattle.icet_model.specs.declared.bracket.Bracket.TheVariants.{Empty, Leaf, Pair}
+use Rattle.icet_model.specs.declared.bracket.Bracket.TheVariants.{Empty, Pair}
 
 -- each further leaf is the back of a new pair
 abbrev pub left_from : Bracket → List Bracket → Bracket

@@ -1,5 +1,5 @@
 -- The plain composite: what the picture of a tile shows, with no strategy, plan or ring in it.
-use Rattle.std.specs.Prelude.{◌≡◌, ℕ, ◌<◌, ◌≤◌, ◌*◌, nat_le, cond, List, [], ◌∷◌, map, get_or, Option, Some, None, slice_get, ◌⊎◌}
+use Rattle.std.specs.Prelude.{◌≡◌, ℕ, ◌<◌, ◌≤◌, nat_le, cond, List, [], ◌∷◌, map, get_or, Some, None, slice_get, ◌⊎◌}
 use Rattle.std.specs.List.{range_with_len}
 use Rattle.icet_model.specs.declared.names.Mode.{Mode}
 use Rattle.icet_model.specs.declared.names.Mode.TheVariants.{Depth}

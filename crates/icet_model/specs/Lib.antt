@@ -1,8 +1,10 @@
+pub mod Boxes
 pub mod Bracket
 pub mod BracketFold
 pub mod Bytes
 pub mod Composite
 pub mod Core
+pub mod Examples
 pub mod Exchange
 pub mod Faults
 pub mod FaultLines
@@ -18,6 +20,7 @@ pub mod Plan
 pub mod Ports
 pub mod Raster
 pub mod Reading
+pub mod Replay
 pub mod Run
 pub mod Scene
 pub mod Tiles

@@ -1,5 +1,5 @@
 -- The picture text: a file in the Netpbm format PAM (magic number P7), with premultiplied colour.
-use Rattle.std.specs.Prelude.{ℕ, List, [], ◌∷◌, ◌++◌, codes, decimal}
+use Rattle.std.specs.Prelude.{ℕ, List, ◌++◌, codes, decimal}
 use Rattle.std.specs.List.{flat_map}
 use Rattle.icet_model.specs.declared.names.Mode.{Mode}
 use Rattle.icet_model.specs.Pixel.{FragmentView, Pixel, finished}

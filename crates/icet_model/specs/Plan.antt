@@ -9,7 +9,7 @@ use Rattle.icet_model.specs.declared.exchange.Op.{Op}
 use Rattle.icet_model.specs.Pixel.{Pixel, joined}
 use Rattle.icet_model.specs.Exchange.{exchanges}
 use Rattle.icet_model.specs.Matched.{IsMatched}
-use Rattle.icet_model.specs.Run.{Carrier, Piece, MessageView, fresh}
+use Rattle.icet_model.specs.Run.{Carrier, Piece, fresh}
 use Rattle.icet_model.specs.Fit.{Tiles, AllFit}
 use Rattle.icet_model.specs.Flow.{Messages, program, flow, end_of}
 use Rattle.icet_model.specs.Bracket.{Images, value}

@@ -1,5 +1,5 @@
 -- Drawing: what a shape gives at a pixel, and the full image of a rank.
-use Rattle.std.specs.Prelude.{ℕ, ◌+◌, ◌*◌, ◌/◌, ◌%◌, ◌&&◌, ◌==◌, cond, List, [], ◌∷◌, map, fold, Option, Some, None}
+use Rattle.std.specs.Prelude.{ℕ, ◌+◌, ◌*◌, ◌/◌, ◌%◌, ◌&&◌, ◌==◌, cond, List, map, fold, Some, None}
 use Rattle.std.specs.List.{range_with_len}
 use Rattle.icet_model.specs.declared.names.Mode.{Mode}
 use Rattle.icet_model.specs.declared.names.Mode.TheVariants.{Depth}

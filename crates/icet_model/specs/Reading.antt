@@ -1,5 +1,5 @@
 -- One kind of content read as another: the run of the reading is the reading of the run.
-use Rattle.std.specs.Prelude.{◌≡◌, ℕ, ◌-◌, ◌<◌, ◌≤◌, List, map, length, option_map}
+use Rattle.std.specs.Prelude.{◌≡◌, ℕ, ◌-◌, ◌<◌, ◌≤◌, map, length, option_map}
 use Rattle.icet_model.specs.Run.{Carrier, Piece, MessageView, Local}
 use Rattle.icet_model.specs.Fit.{Tiles}
 

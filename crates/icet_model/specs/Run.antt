@@ -1,6 +1,6 @@
 -- The local run of one rank's program: what its slots hold, what it keeps and what it sends, given
 -- what it takes. One run serves every kind of content, such as brackets and lists of pixels.
-use Rattle.std.specs.Prelude.{◌≡◌, ℕ, suc, ◌-◌, Bool, cond, ◌&&◌, ◌==◌, List, [], ◌∷◌, ◌++◌, take, Option, Some, None, slice_get}
+use Rattle.std.specs.Prelude.{ℕ, suc, ◌-◌, Bool, cond, ◌&&◌, ◌==◌, List, [], ◌∷◌, ◌++◌, take, Option, Some, None, slice_get}
 use Rattle.icet_model.specs.declared.exchange.Kind.{Kind}
 use Rattle.icet_model.specs.declared.exchange.Kind.TheVariants.{Send, Take}
 use Rattle.icet_model.specs.declared.exchange.Exchange.{Exchange}

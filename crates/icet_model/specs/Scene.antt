@@ -1,13 +1,13 @@
 -- The scene text: what each line says behind the lines before it, the first line that doesn't fit,
 -- and the scene of a text.
-use Rattle.std.specs.Prelude.{◌≡◌, ℕ, ◌+◌, ◌-◌, ◌*◌, Bool, ◌&&◌, nat_le, nat_lt, nat_eq, cond, List, [], ◌∷◌, ◌++◌, length, slice_index, false, Option, Some, None, codes, option_map}
+use Rattle.std.specs.Prelude.{ℕ, ◌+◌, ◌-◌, ◌*◌, Bool, ◌&&◌, nat_le, nat_lt, nat_eq, cond, List, [], ◌∷◌, ◌++◌, length, slice_index, false, Option, Some, None, codes, option_map}
 use Rattle.std.specs.List.{range_with_len, sum_by}
 use Rattle.std.specs.Option.{option_and_then}
 use Rattle.std.specs.Cmp.Lexicographic.{pointwise}
 use Rattle.icet_model.specs.declared.names.Mode.{Mode}
 use Rattle.icet_model.specs.declared.names.Mode.TheVariants.{Depth}
 use Rattle.icet_model.specs.Pixel.{FragmentView}
-use Rattle.icet_model.specs.Raster.{Drawing, Point, Area}
+use Rattle.icet_model.specs.Raster.{Drawing, Point}
 use Rattle.icet_model.specs.Tiles.{TileView}
 use Rattle.icet_model.specs.Numeral.{number_of, within}
 use Rattle.icet_model.specs.Lines.{lines_of, words_of}
@@ -70,7 +70,7 @@ depth_range = (0, 16777214)
 
 -- how many ranks a scene may have
 abbrev pub count_range : ℕ × ℕ
-count_range = (1, 1)
+count_range = (1, 64)
 
 -- x, y, w, h and the display rank
 abbrev pub tile_ranges : ℕ → List (ℕ × ℕ)

@@ -1,5 +1,5 @@
 -- Tiles: rectangles of the display, and which ranks draw into them.
-use Rattle.std.specs.Prelude.{ℕ, ℤ, pos, unsigned_abs, ◌+◌, ◌<◌, ◌≤◌, ◌≤ℤ◌, ◌≢◌, All, AllPairs, List, length}
+use Rattle.std.specs.Prelude.{ℕ, ℤ, pos, unsigned_abs, ◌+◌, ◌≤◌, ◌≤ℤ◌, ◌≢◌, All, AllPairs, List, length}
 use Rattle.icet_model.specs.declared.names.Rect.{Rect}
 use Rattle.icet_model.specs.Raster.{Area}
 

@@ -1,5 +1,9 @@
 //! What holds of the definitions for all values.
-ghost use Rattle.std.specs.Prelude.{◌≡◌, ℕ, List, None, Some, slice_get};
+ghost use Rattle.std.specs.Prelude.{◌≡◌, ℕ, ◌<◌, ◌^◌, List, None, Some, decimal, slice_get};
+ghost use Rattle.icet_model.specs.declared.bracket.Bracket.{Bracket};
+ghost use Rattle.icet_model.specs.declared.names.Mode.TheVariants.{Depth};
+ghost use Rattle.icet_model.specs.Bracket.{Images, leaves, value};
+ghost use Rattle.icet_model.specs.Numeral.{number_of};
 ghost use Rattle.icet_model.specs.Pixel.{FragmentView, Pixel};
 ghost use Rattle.icet_model.specs.Composite.{nearest, IsLeast};
 
@@ -8,4 +12,10 @@ ghost use Rattle.icet_model.specs.Composite.{nearest, IsLeast};
 pub fn nearest_is_least()
     ensures some { (pixels : List Pixel) (fragment : FragmentView) → nearest pixels ≡ Some fragment → (r : ℕ) × IsLeast pixels fragment r }
     ensures none { (pixels : List Pixel) → nearest pixels ≡ None → (q : ℕ) (pixel : Pixel) → slice_get pixels q ≡ Some pixel → pixel ≡ None }
+{}
+
+/// The numerals of numbers below 2^64 are exactly the decimal texts that are written for them.
+pub fn numerals_are_decimals()
+    ensures read { (n : ℕ) → n < 2 ^ 64 → number_of (decimal n) ≡ Some n }
+    ensures written { (word : List ℕ) (n : ℕ) → n < 2 ^ 64 → number_of word ≡ Some n → word ≡ decimal n }
 {}

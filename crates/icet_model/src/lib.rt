@@ -5,6 +5,7 @@
 #![tactic(auto)]
 
 pub mod bracket;
+pub mod examples;
 pub mod exchange;
 pub mod laws;
 pub mod names;

@@ -9,9 +9,9 @@ use Rattle.icet_model.specs.declared.exchange.Op.TheVariants.{Load, Swap, Keep}
 use Rattle.icet_model.specs.Exchange.{key, of_op, exchanges, sends_to, takes_from, Follows, IsRising, Heading, heading}
 use Rattle.icet_model.specs.Matched.{HasPeerIn}
 use Rattle.icet_plan.proofs.Lists.{filter-append, all_weaker}
-use Rattle.icet_plan.proofs.Runs.{exchanges-append}
+use Rattle.icet_plan.proofs.LocalRuns.{exchanges-append}
 use Rattle.icet_plan.proofs.Segments.{all_append, AreWithin, rising_append}
-use Rattle.icet_plan.proofs.Agree.{AreMatched}
+use Rattle.icet_plan.proofs.FlowIsOne.{AreMatched}
 use Rattle.icet_multi.specs.Direct.{TileView, has, hands_in, send_of, take_of, sends_of, takes_in, takes_of, direct_exchanges, gift, fetch, joins, folds, showing, gifts, showings, direct_program, IsTile}
 use Rattle.icet_multi.proofs.Distinct.{Apart}
 use Rattle.icet_multi.proofs.Picked.{entry, entries, picked}

@@ -10,9 +10,9 @@ use Rattle.icet_model.specs.Matched.{HasPeerIn}
 use Rattle.icet_model.specs.Flow.{program}
 use Rattle.icet_model.specs.Plan.{PlanView, IsPlan, has_place, bracket_carrier}
 use Rattle.icet_plan.proofs.Lists.{all_weaker, all_map}
-use Rattle.icet_plan.proofs.Agree.{AreMatched}
+use Rattle.icet_plan.proofs.FlowIsOne.{AreMatched}
 use Rattle.icet_plan.proofs.Segments.{Does}
-use Rattle.icet_plan.proofs.Pictures.{of_program}
+use Rattle.icet_plan.proofs.PlanFlows.{of_program}
 use Rattle.icet_plan.proofs.Assemble.{DoesAll, plan_matched, plan_flow, plan_sound}
 use Rattle.icet_multi.specs.Direct.{TileView, tile_bracket, direct_messages, send_of, folds, gifts, showings, direct_program, direct_plan, IsTile, AreTiles, IsDirect}
 use Rattle.icet_multi.proofs.Distinct.{Apart, apart_from_pairs, has_none}

@@ -13,7 +13,7 @@ use Rattle.icet_model.specs.Run.{Carrier, Piece, MessageView, put, whole}
 use Rattle.icet_model.specs.Fit.{Tiles}
 use Rattle.icet_model.specs.Plan.{bracket_carrier}
 use Rattle.icet_plan.proofs.Segments.{Does, does_nothing, does_both}
-use Rattle.icet_plan.proofs.Moves.{does_as, load_does, blank_does, join_does, keep_does, give_does, take_does}
+use Rattle.icet_plan.proofs.SingleSteps.{does_as, load_does, blank_does, join_does, keep_does, give_does, take_does}
 use Rattle.icet_multi.specs.Direct.{TileView, hands_in, tile_bracket, image_message, messages_from, direct_messages, send_of, take_of, gift, fetch, joins, folds, showing, gifts, showings, direct_program}
 use Rattle.icet_multi.proofs.Distinct.{Apart}
 use Rattle.icet_multi.proofs.Picked.{entry, entries, picked}

@@ -1,3 +1,4 @@
+pub mod Absent
 pub mod DirectSteps
 pub mod Distinct
 pub mod DirectKept
@@ -5,6 +6,7 @@ pub mod DirectMatched
 pub mod DirectPlan
 pub mod DirectRuns
 pub mod Fewness
+pub mod Layouts
 pub mod OnTiles
 pub mod OneTile
 pub mod Picked

@@ -2,9 +2,12 @@
 #![tactic(auto)]
 
 pub mod direct;
+pub mod laws;
+pub mod planning;
 pub mod settings;
 pub mod tile;
 
+pub use planning::plan;
 pub use settings::{Settings, Single, Strategy};
 pub use tile::TileRanks;
 

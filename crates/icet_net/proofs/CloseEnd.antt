@@ -22,9 +22,9 @@ use Rattle.icet_model.specs.Wires.{Pairing}
 use Rattle.icet_collect.specs.Collect.{CanvasView, HasWanted, blank_canvas}
 use Rattle.icet_rank.specs.Moves.{port_to}
 use Rattle.icet_rank.specs.Machine.{MachineView, IsDone}
-use Rattle.icet_plan.proofs.Heads.{sent_passed, used_passed}
-use Rattle.icet_plan.proofs.Nets.{Front}
-use Rattle.icet_plan.proofs.Pictures.{of_program, IsRight}
+use Rattle.icet_plan.proofs.Headings.{sent_passed, used_passed}
+use Rattle.icet_plan.proofs.MachineNets.{Front}
+use Rattle.icet_plan.proofs.PlanFlows.{of_program, IsRight}
 use Rattle.icet_plan.proofs.PlanNets.{pixels_of, all_carried, kept_are_values, kept_are_right, kept_are_once}
 use Rattle.icet_net.specs.Net.{HullView, IsHull, messages_on, sides_at, blank_canvases, AreSides}
 use Rattle.icet_net.specs.Opening.{ports_of}

@@ -1,5 +1,5 @@
 -- Ports that are taken out of lists of ports, and closed pair by pair.
-use Rattle.std.proofs.Common.{◌≡◌, ◌≢◌, ℕ, zero, suc, ◌+◌, ◌<◌, Bool, true, false, cond, List, [], ◌∷◌, ◌++◌, map, length, get_or, take, drop, slice_set, slice_index_or, refl, sym, ap, ◌∙◌, subst, arith, Some, eq-eqb, ne_eqb, inl, inr}
+use Rattle.std.proofs.Common.{reverse, ◌≡◌, ◌≢◌, ℕ, zero, suc, ◌+◌, ◌<◌, ◌≤◌, Bool, true, false, cond, List, [], ◌∷◌, ◌++◌, map, length, get_or, take, drop, slice_set, slice_index_or, refl, sym, ap, ◌∙◌, subst, arith, Some, eq-eqb, ne_eqb, inl, inr}
 use Rattle.std.specs.Prelude.{◌⊎◌, ◌==◌}
 use Rattle.std.specs.List.{slice_get}
 use Rattle.std.specs.Option.{ForSome}
@@ -9,34 +9,87 @@ use Rattle.icet_model.specs.Ports.{by_peer}
 use Rattle.icet_model.specs.Wires.{Pairing}
 use Rattle.icet_rank.specs.Moves.{HasPeer, port_to}
 use Rattle.icet_rank.proofs.PortMoves.{has_paired, by_port}
-use Rattle.std.proofs.lemmas.List.{append_assoc, map-append, take_more}
+use Rattle.std.proofs.lemmas.List.{append_assoc, map-append, take_more, take_all, reverse-append}
 use Rattle.icet_net.specs.Opening.{ports_of}
 use Rattle.icet_net.specs.CloseSteps.{IsClosable, LosesPort, KeepsPortsFrom, IsTaken, AreDistinct, entry_of}
 use Rattle.icet_net.proofs.MetPorts.{same_or_not}
 
 module _ {P : Type 0} where
-  -- the port at the first place of the peer is the port to the peer
-  first_drop : (ports : List (ℕ × P)) (at peer : ℕ) (x : ℕ × P) → slice_get ports at ≡ Some x → x.0 ≡ peer → port_to (drop at ports) peer ≡ Some x.1
-  first_drop [] at peer x h e = absurd (cc)
-  first_drop (y ∷ ys) zero peer x h e = let z : y ≡ x = cc in ap (λ (b : Bool). cond b (Some y.1) (port_to ys peer)) (eq-eqb y.0 peer (ap (λ (w : ℕ × P). w.0) z ∙ e)) ∙ ap (λ (w : ℕ × P). Some w.1) z
-  first_drop (y ∷ ys) (suc at) peer x h e = first_drop ys at peer x h e
-
   at_place : (ports : List (ℕ × P)) (at : ℕ) (d x : ℕ × P) → slice_get ports at ≡ Some x → slice_index_or ports at d ≡ x
   at_place [] at d x h = absurd (cc)
   at_place (y ∷ ys) zero d x h = cc
   at_place (y ∷ ys) (suc at) d x h = at_place ys at d x h
 
-  pub first_here : (ports : List (ℕ × P)) (at peer : ℕ) (d : ℕ × P) → (slice_index_or ports at d).0 ≡ peer → port_to ports peer ≡ port_to (drop at ports) peer → ForSome (slice_get ports at) (λ p. (p.0 ≡ peer) × (port_to ports peer ≡ Some p.1))
-  first_here ports at peer d e h x i = let q : x.0 ≡ peer = sym (ap (λ (w : ℕ × P). w.0) (at_place ports at d x i)) ∙ e in (q, h ∙ first_drop ports at peer x i q)
+  -- the last of the first n + 1 ports stands first in reverse
+  reverse_more : (ports : List (ℕ × P)) (n : ℕ) (d : ℕ × P) → n < length ports → reverse (take (n + 1) ports) ≡ get_or ports n d ∷ reverse (take n ports)
+  reverse_more ports n d l = ap reverse (take_more ports n d l) ∙ reverse-append (take n ports) (get_or ports n d ∷ [])
+
+  -- the ports of which those behind the first n are none to the peer
+  pub record Seeks (n peer : ℕ) (ports : List (ℕ × P)) : Type 0 where
+    pub within : n ≤ length ports
+    pub has : HasPeer peer (reverse (take n ports))
+    pub same : port_to (reverse ports) peer ≡ port_to (reverse (take n ports)) peer
+
+  pub seeks_all : (n peer : ℕ) (ports : List (ℕ × P)) → n ≡ length ports → HasPeer peer (reverse ports) → Seeks n peer ports
+  seeks_all n peer ports e h =
+      let z : take n ports ≡ ports = take_all n ports (omega (arith, e)) in
+      record { within = omega (arith, e); has = subst (λ xs. HasPeer peer (reverse xs)) (sym z) h; same = ap (λ xs. port_to (reverse xs) peer) (sym z) }
+
+  pub seeks_none : (n peer : ℕ) (ports : List (ℕ × P)) → n ≤ 0 → Seeks n peer ports → ⊥
+  seeks_none n peer ports l s = subst (λ k. HasPeer peer (reverse (take k ports))) (let e : n ≡ 0 = omega (arith, l) in e) s.has
+
+  pub seeks_less : (n m peer : ℕ) (ports : List (ℕ × P)) (d : ℕ × P) → n ≡ m + 1 → (get_or ports m d).0 ≢ peer → Seeks n peer ports → Seeks m peer ports
+  seeks_less n m peer ports d e nope s =
+      let l = s.within in
+      let r : reverse (take n ports) ≡ get_or ports m d ∷ reverse (take m ports) = ap (λ k. reverse (take k ports)) e ∙ reverse_more ports m d (omega (arith, e, l)) in
+      record {
+        within = omega (arith, e, l);
+        has = other (subst (HasPeer peer) r s.has);
+        same = s.same ∙ (ap (λ xs. port_to xs peer) r ∙ ap (λ (b : Bool). cond b (Some (get_or ports m d).1) (port_to (reverse (take m ports)) peer)) (ne_eqb (get_or ports m d).0 peer nope));
+      }
+    where
+      other : HasPeer peer (get_or ports m d ∷ reverse (take m ports)) → HasPeer peer (reverse (take m ports))
+      other (inl h) = absurd (nope h)
+      other (inr h) = h
+
+  pub last_here : (n m peer : ℕ) (ports : List (ℕ × P)) (d : ℕ × P) → n ≡ m + 1 → (get_or ports m d).0 ≡ peer → Seeks n peer ports → ForSome (slice_get ports m) (λ p. (p.0 ≡ peer) × (port_to (reverse ports) peer ≡ Some p.1))
+  last_here n m peer ports d e is s x i =
+      let l = s.within in
+      let y = get_or ports m d in
+      let z : y ≡ x = at_place ports m d x i in
+      let r : reverse (take n ports) ≡ y ∷ reverse (take m ports) = ap (λ k. reverse (take k ports)) e ∙ reverse_more ports m d (omega (arith, e, l)) in (
+        ap (λ (w : ℕ × P). w.0) (sym z) ∙ is,
+        s.same ∙ (ap (λ xs. port_to xs peer) r ∙ (ap (λ (b : Bool). cond b (Some y.1) (port_to (reverse (take m ports)) peer)) (eq-eqb y.0 peer is) ∙ ap (λ (w : ℕ × P). Some w.1) z)),
+      )
+
+  parted : (ports : List (ℕ × P)) (k : ℕ) (d : ℕ × P) → k < length ports → take k ports ++ get_or ports k d ∷ drop (suc k) ports ≡ ports
+  parted [] k d l = absurd (omega (arith, l))
+  parted (x ∷ xs) zero d l = refl
+  parted (x ∷ xs) (suc k) d l = ap (λ ys. x ∷ ys) (parted xs k d (omega (arith, l)))
+
+  skip_one : (xs ys : List (ℕ × P)) (y : ℕ × P) (k : ℕ) → y.0 ≢ k → port_to ((xs ++ y ∷ []) ++ ys) k ≡ port_to (xs ++ ys) k
+  skip_one [] ys y k n = ap (λ (b : Bool). cond b (Some y.1) (port_to ys k)) (ne_eqb y.0 k n)
+  skip_one (x ∷ xs) ys y k n = ap (λ v. cond (x.0 == k) (Some x.1) v) (skip_one xs ys y k n)
+
+  there : (ports : List (ℕ × P)) (at : ℕ) (d : ℕ × P) → at < length ports → slice_get ports at ≡ Some (get_or ports at d)
+  there [] at d l = absurd (omega (arith, l))
+  there (y ∷ ys) zero d l = refl
+  there (y ∷ ys) (suc at) d l = there ys at d (omega (arith, l))
 
   -- the ports to other peers stand when one is removed
-  pub removed : (Q : ℕ × P → Type 0) (ports : List (ℕ × P)) (at peer : ℕ) → at < length ports → ForSome (slice_get ports at) (λ p. (p.0 ≡ peer) × Q p) → (k : ℕ) → k ≢ peer → port_to (take at ports ++ drop (suc at) ports) k ≡ port_to ports k
-  removed Q [] at peer l h k n = absurd (omega (arith, l))
-  removed Q (y ∷ ys) zero peer l h k n = sym (ap (λ (b : Bool). cond b (Some y.1) (port_to ys k)) (ne_eqb y.0 k (λ e. n (sym e ∙ (h y refl).0))))
-  removed Q (y ∷ ys) (suc at) peer l h k n = ap (λ v. cond (y.0 == k) (Some y.1) v) (removed Q ys at peer (omega (arith, l)) h k n)
+  removed : (Q : ℕ × P → Type 0) (ports : List (ℕ × P)) (at peer : ℕ) (d : ℕ × P) → at < length ports → ForSome (slice_get ports at) (λ p. (p.0 ≡ peer) × Q p) → (k : ℕ) → k ≢ peer → port_to (reverse (take at ports ++ drop (suc at) ports)) k ≡ port_to (reverse ports) k
+  removed Q ports at peer d l h k n =
+      let y = get_or ports at d in
+      let is = (h y (there ports at d l)).0 in
+      let whole : reverse ports ≡ (reverse (drop (suc at) ports) ++ y ∷ []) ++ reverse (take at ports) = ap reverse (sym (parted ports at d l)) ∙ (reverse-append (take at ports) (y ∷ drop (suc at) ports) ∙ ap (λ xs. xs ++ reverse (take at ports)) (reverse-append (y ∷ []) (drop (suc at) ports))) in
+      ap (λ xs. port_to xs k) (reverse-append (take at ports) (drop (suc at) ports)) ∙ (sym (skip_one (reverse (drop (suc at) ports)) (reverse (take at ports)) y k (λ e. n (sym e ∙ is))) ∙ ap (λ xs. port_to xs k) (sym whole))
 
-  pub removed_from : (Q : ℕ × P → Type 0) (ports items : List (ℕ × P)) (at peer : ℕ) → ports ≡ items → at < length ports → ForSome (slice_get ports at) (λ p. (p.0 ≡ peer) × Q p) → (k : ℕ) → k ≢ peer → port_to (take at items ++ drop (suc at) items) k ≡ port_to items k
-  removed_from Q ports items at peer e l h = subst (λ (zs : List (ℕ × P)). (k : ℕ) → k ≢ peer → port_to (take at zs ++ drop (suc at) zs) k ≡ port_to zs k) e (removed Q ports at peer l h)
+  first_of : (ports : List (ℕ × P)) (at : ℕ) → at < length ports → ℕ × P
+  first_of [] at l = absurd (omega (arith, l))
+  first_of (y ∷ ys) at l = y
+
+  pub removed_from : (Q : ℕ × P → Type 0) (ports items : List (ℕ × P)) (at peer : ℕ) → ports ≡ items → at < length ports → ForSome (slice_get ports at) (λ p. (p.0 ≡ peer) × Q p) → (k : ℕ) → k ≢ peer → port_to (reverse (take at items ++ drop (suc at) items)) k ≡ port_to (reverse items) k
+  removed_from Q ports items at peer e l h = subst (λ (zs : List (ℕ × P)). (k : ℕ) → k ≢ peer → port_to (reverse (take at zs ++ drop (suc at) zs)) k ≡ port_to (reverse zs) k) e (removed Q ports at peer (first_of ports at l) l h)
 
   -- what is read of a port that is there
   pub read_port : {V : Type 0} (f : P → V) (d : V) (ports : List (ℕ × P)) (k : ℕ) (x : P) → port_to ports k ≡ Some x → by_peer f d ports k ≡ f x

@@ -18,9 +18,9 @@ use Rattle.icet_model.specs.Plan.{PlanView, IsPlan, plan_exchanges, pixel_carrie
 use Rattle.icet_model.specs.Ports.{at_list, by_peer, IsAt}
 use Rattle.icet_model.specs.Wires.{Pairing}
 use Rattle.icet_rank.specs.Machine.{MachineView, sizes_of, content_at}
-use Rattle.icet_plan.proofs.Heads.{sent_passed, used_passed}
-use Rattle.icet_plan.proofs.Nets.{Front, counter_at}
-use Rattle.icet_plan.proofs.Pictures.{of_program}
+use Rattle.icet_plan.proofs.Headings.{sent_passed, used_passed}
+use Rattle.icet_plan.proofs.MachineNets.{Front, counter_at}
+use Rattle.icet_plan.proofs.PlanFlows.{of_program}
 use Rattle.icet_plan.proofs.PlanNets.{pixels_of, sent_is_front, counters_are_lawful}
 use Rattle.icet_net.specs.Net.{HullView, messages_on}
 use Rattle.icet_net.specs.Ranks.{machine_at, no_machine, mode_of, images_of, counters, out_at, in_at, AreWholeImages, AreHulls, AreAllSynced, IsOnCourse}

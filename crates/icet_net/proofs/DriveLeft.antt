@@ -8,7 +8,7 @@ use Rattle.icet_model.specs.Exchange.{exchanges}
 use Rattle.icet_model.specs.Plan.{plan_exchanges}
 use Rattle.icet_model.specs.Core.{HasLeft}
 use Rattle.icet_model.specs.Wires.{Pairing}
-use Rattle.icet_plan.proofs.Order.{some_enabled}
+use Rattle.icet_plan.proofs.CoreLaws.{some_enabled}
 use Rattle.icet_rank.specs.Machine.{MachineView}
 use Rattle.icet_net.specs.Net.{HullView, IsHull}
 use Rattle.icet_net.specs.Ranks.{machine_at, counters, AreHulls, AreAllSynced, IsOnCourse, EachRank, GoesOn, MetOthers, HadTurn}

@@ -14,9 +14,9 @@ use Rattle.icet_model.specs.Core.{sent as sent_by, taken as taken_by}
 use Rattle.icet_model.specs.Plan.{plan_exchanges}
 use Rattle.icet_model.specs.Ports.{by_peer}
 use Rattle.icet_model.specs.Wires.{Pairing}
-use Rattle.icet_plan.proofs.Heads.{sent_passed, used_passed}
-use Rattle.icet_plan.proofs.Pictures.{of_program}
-use Rattle.icet_plan.proofs.Stuck.{passed_next, one_passes, send_is}
+use Rattle.icet_plan.proofs.Headings.{sent_passed, used_passed}
+use Rattle.icet_plan.proofs.PlanFlows.{of_program}
+use Rattle.icet_plan.proofs.SomeEnabled.{passed_next, one_passes, send_is}
 use Rattle.icet_rank.specs.Machine.{MachineView, IsRunning, carrier_of}
 use Rattle.icet_rank.specs.Steps.{IsKnownReady, known_at}
 use Rattle.icet_net.specs.Net.{HullView}

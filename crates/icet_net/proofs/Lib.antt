@@ -10,6 +10,7 @@ pub mod DriveKeeps
 pub mod DriveLeft
 pub mod DriveReady
 pub mod HullPairs
+pub mod LeastLeaf
 pub mod Looks
 pub mod MetPorts
 pub mod NewPorts

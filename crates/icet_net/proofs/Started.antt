@@ -18,7 +18,7 @@ use Rattle.icet_rank.specs.Fits.{AllFitAnyDisplay}
 use Rattle.icet_rank.specs.Machine.{MachineView, carrier_of, IsReadyToRun}
 use Rattle.icet_rank.proofs.AnyDisplay.{all_fit_any_display}
 use Rattle.icet_plan.proofs.Shapes.{fits_anyhow}
-use Rattle.icet_plan.proofs.Pictures.{of_program}
+use Rattle.icet_plan.proofs.PlanFlows.{of_program}
 use Rattle.icet_net.specs.Net.{HullView, messages_on}
 use Rattle.icet_net.specs.Ranks.{machine_at, no_machine, AreOpenedWith, AreWholeImages, AreHulls}
 use Rattle.icet_net.specs.Opening.{AreNewPorts, IsOpenedPair, IsStarted, ports_of}

@@ -2,6 +2,7 @@ pub mod CloseSteps
 pub mod Closing
 pub mod Counting
 pub mod Drives
+pub mod NearestLeaf
 pub mod Net
 pub mod Opening
 pub mod Ranks

@@ -1,4 +1,4 @@
-ghost use Rattle.std.specs.Prelude.{◌≡◌, ◌≢◌, ◌<◌, ◌≤◌, ◌+◌, ◌*◌, ◌++◌, ◌∷◌, [], ℕ, IfOk, OnOk, IfErr, OnErr, IfSome, IfNone, Some, length, map, slice_get, vec_capacity};
+ghost use Rattle.std.specs.Prelude.{◌≡◌, ◌≢◌, ◌<◌, ◌≤◌, ◌+◌, ◌*◌, ◌++◌, ◌∷◌, [], ℕ, IfOk, OnOk, IfErr, OnErr, IfSome, IfNone, Some, length, map, reverse, slice_get, vec_capacity};
 ghost use Rattle.std.specs.List.{AllByRecursion, range_with_len};
 ghost use Rattle.std.specs.Option.{ForSome};
 ghost use Rattle.icet_model.specs.Pixel.{Pixel};
@@ -104,8 +104,8 @@ fn close_done<W: Wires>(
     Pictures::of(show_all(&plan, canvases, &parts, pictures))
 }
 
-/// What all machines hand out, put into the memory given. Conditions: all are done, and there is
-/// memory for all.
+/// What all machines hand out, put into the memory given, with the ports descending by peer. Conditions:
+/// all are done, and there is memory for all.
 fn take_apart<I: Inbox, O: Outbox>(
     ranks: Vec<RankMachine<I, O>>,
     parts: Vec<Parts<I, O>>,
@@ -113,14 +113,26 @@ fn take_apart<I: Inbox, O: Outbox>(
     requires done { AllByRecursion IsDone ranks.items }
     requires memory { length ranks.items ≤ vec_capacity parts }
     ensures kept { map (λ p. p.kept.items) result.items ≡ map (λ m. m.kept) ranks.items }
-    ensures inboxes { map (λ p. p.inboxes.items) result.items ≡ map (λ m. m.inboxes) ranks.items }
-    ensures outboxes { map (λ p. p.outboxes.items) result.items ≡ map (λ m. m.outboxes) ranks.items }
+    ensures inboxes { map (λ p. reverse p.inboxes.items) result.items ≡ map (λ m. m.inboxes) ranks.items }
+    ensures outboxes { map (λ p. reverse p.outboxes.items) result.items ≡ map (λ m. m.outboxes) ranks.items }
 {
     let mut parts = parts;
     parts.clear();
     'parting: for machine in ranks {
-        parts.push_reserved(machine.into_parts());
+        parts.push_reserved(turned(machine.into_parts()));
     }
+    parts
+}
+
+/// The parts with the ports in reverse order.
+fn turned<I: Inbox, O: Outbox>(parts: Parts<I, O>) -> Parts<I, O>
+    ensures kept { result.kept.items ≡ parts.kept.items }
+    ensures inboxes { reverse result.inboxes.items ≡ parts.inboxes.items }
+    ensures outboxes { reverse result.outboxes.items ≡ parts.outboxes.items }
+{
+    let mut parts = parts;
+    parts.inboxes.reverse();
+    parts.outboxes.reverse();
     parts
 }
 
@@ -129,10 +141,10 @@ fn take_apart<I: Inbox, O: Outbox>(
 fn close_pairs<W: Wires>(pairs: &[(Rank, Rank)], parts: &mut [Parts<W::In, W::Out>], wires: &mut W)
     requires owed { length pairs.now ≤ W.owed wires.old }
     requires distinct { AreDistinct pairs.now }
-    requires closable { (i : ℕ) (p : ℕ × ℕ) → slice_get pairs.now i ≡ Some p → IsClosable W.In.taken W.In.pairing W.Out.sent W.Out.pairing (map (λ p. p.outboxes.items) parts.old) (map (λ p. p.inboxes.items) parts.old) p.0 p.1 }
+    requires closable { (i : ℕ) (p : ℕ × ℕ) → slice_get pairs.now i ≡ Some p → IsClosable W.In.taken W.In.pairing W.Out.sent W.Out.pairing (map (λ p. reverse p.outboxes.items) parts.old) (map (λ p. reverse p.inboxes.items) parts.old) p.0 p.1 }
     ensures kept { map (λ p. p.kept.items) parts.new ≡ map (λ p. p.kept.items) parts.old }
-    ensures taken { (i : ℕ) (p : ℕ × ℕ) → slice_get pairs.now i ≡ Some p → IsTaken W.In.taken W.Out.sent (map (λ p. p.outboxes.items) parts.old) (map (λ p. p.inboxes.items) parts.old) p }
-    ensures log { W.log wires.new ≡ W.log wires.old ++ map (entry_of W.Out.sent (map (λ p. p.outboxes.items) parts.old)) pairs.now }
+    ensures taken { (i : ℕ) (p : ℕ × ℕ) → slice_get pairs.now i ≡ Some p → IsTaken W.In.taken W.Out.sent (map (λ p. reverse p.outboxes.items) parts.old) (map (λ p. reverse p.inboxes.items) parts.old) p }
+    ensures log { W.log wires.new ≡ W.log wires.old ++ map (entry_of W.Out.sent (map (λ p. reverse p.outboxes.items) parts.old)) pairs.now }
     ensures owed { W.owed wires.old ≡ W.owed wires.new + length pairs.now }
 {
     'closing: for i in 0..pairs.len() {
@@ -144,12 +156,12 @@ fn close_pairs<W: Wires>(pairs: &[(Rank, Rank)], parts: &mut [Parts<W::In, W::Ou
 /// Closes one pair. Conditions: it is there and can be closed, and the wires owe a close.
 fn close_one<W: Wires>(from: Rank, to: Rank, parts: &mut [Parts<W::In, W::Out>], wires: &mut W)
     requires owed { 0 < W.owed wires.old }
-    requires closable { IsClosable W.In.taken W.In.pairing W.Out.sent W.Out.pairing (map (λ p. p.outboxes.items) parts.old) (map (λ p. p.inboxes.items) parts.old) from to }
+    requires closable { IsClosable W.In.taken W.In.pairing W.Out.sent W.Out.pairing (map (λ p. reverse p.outboxes.items) parts.old) (map (λ p. reverse p.inboxes.items) parts.old) from to }
     ensures kept { map (λ p. p.kept.items) parts.new ≡ map (λ p. p.kept.items) parts.old }
-    ensures outboxes { LosesPort from to (map (λ p. p.outboxes.items) parts.old) (map (λ p. p.outboxes.items) parts.new) }
-    ensures inboxes { LosesPort to from (map (λ p. p.inboxes.items) parts.old) (map (λ p. p.inboxes.items) parts.new) }
-    ensures taken { IsTaken W.In.taken W.Out.sent (map (λ p. p.outboxes.items) parts.old) (map (λ p. p.inboxes.items) parts.old) (from, to) }
-    ensures log { W.log wires.new ≡ W.log wires.old ++ entry_of W.Out.sent (map (λ p. p.outboxes.items) parts.old) (from, to) ∷ [] }
+    ensures outboxes { LosesPort from to (map (λ p. reverse p.outboxes.items) parts.old) (map (λ p. reverse p.outboxes.items) parts.new) }
+    ensures inboxes { LosesPort to from (map (λ p. reverse p.inboxes.items) parts.old) (map (λ p. reverse p.inboxes.items) parts.new) }
+    ensures taken { IsTaken W.In.taken W.Out.sent (map (λ p. reverse p.outboxes.items) parts.old) (map (λ p. reverse p.inboxes.items) parts.old) (from, to) }
+    ensures log { W.log wires.new ≡ W.log wires.old ++ entry_of W.Out.sent (map (λ p. reverse p.outboxes.items) parts.old) (from, to) ∷ [] }
     ensures owed { W.owed wires.old ≡ W.owed wires.new + 1 }
 {
     let out = take_outbox(parts, from, to);
@@ -160,10 +172,10 @@ fn close_one<W: Wires>(from: Rank, to: Rank, parts: &mut [Parts<W::In, W::Out>],
 /// Takes the outbox of a rank to a peer out of the parts. Condition: it is there.
 fn take_outbox<I: Inbox, O: Outbox>(parts: &mut [Parts<I, O>], rank: Rank, peer: Rank) -> O
     requires within { rank < length parts.old }
-    requires there { HasPeer peer (ports_of (map (λ p. p.outboxes.items) parts.old) rank) }
-    ensures port { port_to (ports_of (map (λ p. p.outboxes.items) parts.old) rank) peer ≡ Some result }
-    ensures outboxes { LosesPort rank peer (map (λ p. p.outboxes.items) parts.old) (map (λ p. p.outboxes.items) parts.new) }
-    ensures inboxes { map (λ p. p.inboxes.items) parts.new ≡ map (λ p. p.inboxes.items) parts.old }
+    requires there { HasPeer peer (ports_of (map (λ p. reverse p.outboxes.items) parts.old) rank) }
+    ensures port { port_to (ports_of (map (λ p. reverse p.outboxes.items) parts.old) rank) peer ≡ Some result }
+    ensures outboxes { LosesPort rank peer (map (λ p. reverse p.outboxes.items) parts.old) (map (λ p. reverse p.outboxes.items) parts.new) }
+    ensures inboxes { map (λ p. reverse p.inboxes.items) parts.new ≡ map (λ p. reverse p.inboxes.items) parts.old }
     ensures kept { map (λ p. p.kept.items) parts.new ≡ map (λ p. p.kept.items) parts.old }
 {
     take_port(&mut parts[rank.0 as usize].outboxes, peer)
@@ -172,34 +184,36 @@ fn take_outbox<I: Inbox, O: Outbox>(parts: &mut [Parts<I, O>], rank: Rank, peer:
 /// Takes the inbox of a rank from a peer out of the parts. Condition: it is there.
 fn take_inbox<I: Inbox, O: Outbox>(parts: &mut [Parts<I, O>], rank: Rank, peer: Rank) -> I
     requires within { rank < length parts.old }
-    requires there { HasPeer peer (ports_of (map (λ p. p.inboxes.items) parts.old) rank) }
-    ensures port { port_to (ports_of (map (λ p. p.inboxes.items) parts.old) rank) peer ≡ Some result }
-    ensures inboxes { LosesPort rank peer (map (λ p. p.inboxes.items) parts.old) (map (λ p. p.inboxes.items) parts.new) }
-    ensures outboxes { map (λ p. p.outboxes.items) parts.new ≡ map (λ p. p.outboxes.items) parts.old }
+    requires there { HasPeer peer (ports_of (map (λ p. reverse p.inboxes.items) parts.old) rank) }
+    ensures port { port_to (ports_of (map (λ p. reverse p.inboxes.items) parts.old) rank) peer ≡ Some result }
+    ensures inboxes { LosesPort rank peer (map (λ p. reverse p.inboxes.items) parts.old) (map (λ p. reverse p.inboxes.items) parts.new) }
+    ensures outboxes { map (λ p. reverse p.outboxes.items) parts.new ≡ map (λ p. reverse p.outboxes.items) parts.old }
     ensures kept { map (λ p. p.kept.items) parts.new ≡ map (λ p. p.kept.items) parts.old }
 {
     take_port(&mut parts[rank.0 as usize].inboxes, peer)
 }
 
-/// Takes the port to a peer out of the ports. Condition: it is there.
+/// Takes the port to a peer out of ports that stand in reverse order. Condition: it is there.
 fn take_port<P: Drop>(ports: &mut Vec<(Rank, P)>, peer: Rank) -> P
-    requires { HasPeer peer ports.old.items }
-    ensures port { port_to ports.old.items peer ≡ Some result }
-    ensures others { (k : ℕ) → k ≢ peer → port_to ports.new.items k ≡ port_to ports.old.items k }
+    requires { HasPeer peer (reverse ports.old.items) }
+    ensures port { port_to (reverse ports.old.items) peer ≡ Some result }
+    ensures others { (k : ℕ) → k ≢ peer → port_to (reverse ports.new.items) k ≡ port_to (reverse ports.old.items) k }
 {
-    let place = first_place(ports, peer);
+    let place = last_place(ports, peer);
     ports.remove(place).1
 }
 
-/// The first place of a port to this peer. Condition: there is one. Pairs are closed ascending, and
-/// ports stand ascending, so it is the first port that is left.
-fn first_place<P>(ports: &[(Rank, P)], peer: Rank) -> usize
-    requires { HasPeer peer ports.now }
+/// The last place of a port to this peer. Condition: there is one. Pairs are closed ascending, and
+/// ports stand descending, so it is the last port that is left.
+fn last_place<P>(ports: &[(Rank, P)], peer: Rank) -> usize
+    requires { HasPeer peer (reverse ports.now) }
     ensures within { result < length ports.now }
-    ensures first { ForSome (slice_get ports.now result) (λ p. (p.0 ≡ peer) × (port_to ports.now peer ≡ Some p.1)) }
+    ensures last { ForSome (slice_get ports.now result) (λ p. (p.0 ≡ peer) × (port_to (reverse ports.now) peer ≡ Some p.1)) }
 {
-    for (at, port) in ports.iter().enumerate() {
-        if port.0 == peer {
+    let mut at = ports.len();
+    'seeking: while at > 0 {
+        at -= 1;
+        if ports[at].0 == peer {
             return at;
         }
     }

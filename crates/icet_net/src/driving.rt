@@ -10,12 +10,13 @@ use icet_rank::RankMachine;
 use icet_ring::{Inbox, Outbox, Wires};
 use std::thread::Threads;
 
-/// Syncs and turns until all ranks are done, in at most as many turns as exchanges are left, and one
-/// more. Conditions: the ranks are the hull's, and `workers` and `burst` are at least 1.
+/// Syncs and turns until all ranks are done, which they are after Ok. It always returns, since each turn
+/// that leaves a rank undone has made an exchange. Conditions: the ranks are the hull's, and `workers`
+/// and `burst` are at least 1.
 ///
 /// # Errors
 ///
-/// `NoMemory`; the ranks are still the hull's, and a later call goes on from there.
+/// `NoMemory`; no exchange is undone and the ranks are still the hull's, so it may be called again.
 #[tactic(auto, using(crate::proofs::DriveKeeps::drives_from))]
 pub fn drive<W: Wires, G: Gate, R: Threads + Sync>(
     rt: &R,

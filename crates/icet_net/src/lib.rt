@@ -5,6 +5,7 @@ pub mod closing;
 mod counting;
 pub mod driving;
 pub mod hull;
+pub mod laws;
 pub mod opening;
 pub mod pictures;
 mod port_list;
@@ -21,3 +22,6 @@ pub use opening::open_net;
 pub use pictures::Pictures;
 pub use syncing::sync_all;
 pub use turning::turn;
+
+#[cfg(test)]
+mod tests;

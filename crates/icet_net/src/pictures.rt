@@ -33,6 +33,13 @@ impl Pictures {
         self.pictures.len()
     }
 
+    /// The pictures, by tile.
+    pub fn as_slice(&self) -> &[Dense]
+        ensures { result.now ≡ self.now }
+    {
+        self.pictures.as_slice()
+    }
+
     /// The picture of a tile. Condition: `tile` is below the number of tiles.
     pub fn picture(&self, tile: u32) -> &Dense
         requires { tile < length self.now }

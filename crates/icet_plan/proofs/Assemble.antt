@@ -13,9 +13,9 @@ use Rattle.icet_model.specs.declared.bracket.Bracket.{Bracket}
 use Rattle.icet_model.specs.declared.bracket.Bracket.TheVariants.{Empty}
 use Rattle.icet_model.specs.Plan.{bracket_carrier, PlanView, has_place, bracket_flow, kept_by, IsSound, plan_exchanges}
 use Rattle.icet_model.specs.Flow.{program}
-use Rattle.icet_plan.proofs.Agree.{AreMatched, flow_unique}
+use Rattle.icet_plan.proofs.FlowIsOne.{AreMatched, flow_unique}
 use Rattle.icet_plan.proofs.Segments.{Does, flow_of_does}
-use Rattle.icet_plan.proofs.Pictures.{of_program, flow_is}
+use Rattle.icet_plan.proofs.PlanFlows.{of_program, flow_is}
 
 -- what a builder shows of each rank
 pub record DoesAll (plan : PlanView) (ms : Messages Bracket) (kept : ℕ → List (Piece Bracket)) : Type 0 where

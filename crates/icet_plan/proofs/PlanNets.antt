@@ -12,8 +12,8 @@ use Rattle.icet_model.specs.Plan.{PlanView, IsPlan, plan_exchanges, pixel_carrie
 use Rattle.icet_model.specs.Reading.{read_piece}
 use Rattle.icet_model.specs.Traffic.{pixel_messages}
 use Rattle.icet_model.specs.Ports.{IsAt}
-use Rattle.icet_plan.proofs.Nets.{Front, is_net, is_lawful, counter_at, carried}
-use Rattle.icet_plan.proofs.Pictures.{traffic_flow, sent_front, at_place, end_is, kept_right, kept_once, IsRight}
+use Rattle.icet_plan.proofs.MachineNets.{Front, is_net, is_lawful, counter_at, carried}
+use Rattle.icet_plan.proofs.PlanFlows.{traffic_flow, sent_front, at_place, end_is, kept_right, kept_once, IsRight}
 
 module _ (mode : Mode) (plan : PlanView) (is : IsPlan plan) (images : Images) (sized : AreWhole plan.tiles images) where
   -- each rank's own kind of content: its images' pixels

@@ -13,8 +13,8 @@ use Rattle.icet_model.specs.Run.{MessageView, Local, put, fresh, run}
 use Rattle.icet_model.specs.Flow.{Messages, program}
 use Rattle.icet_model.specs.Fit.{AllFit}
 use Rattle.icet_model.specs.Plan.{PlanView, IsPlan, has_place, bracket_carrier, bracket_flow}
-use Rattle.icet_plan.specs.Samples.{two_ranks, three_ranks, two_tiles}
-use Rattle.icet_plan.proofs.Images.{local_same}
+use Rattle.icet_plan.specs.Samples.{two_ranks, three_ranks, two_tiles, two_swappers}
+use Rattle.icet_plan.proofs.CarrierImages.{local_same}
 use Rattle.icet_plan.proofs.Assemble.{DoesAll, plan_matched, plan_flow, plan_sound}
 
 -- tests that compute on a program that is written out
@@ -102,8 +102,11 @@ module _ (plan : PlanView) (ms : Messages Bracket) where
     };
   }
 
+abbrev part_message : ℕ → ℕ → ℕ → ℕ → ℕ → ℕ → Bracket → MessageView Bracket
+part_message round from to tile lo hi b = record { round = round; from = from; to = to; piece = record { tile = tile; lo = lo; hi = hi; content = b } }
+
 abbrev message : ℕ → ℕ → ℕ → ℕ → ℕ → Bracket → MessageView Bracket
-message round from to tile hi b = record { round = round; from = from; to = to; piece = record { tile = tile; lo = 0; hi = hi; content = b } }
+message round from to tile hi b = part_message round from to tile 0 hi b
 
 abbrev pub messages_of_two : Messages Bracket
 messages_of_two zero = λ r. []
@@ -349,3 +352,78 @@ two_tiles_plan = record {
 -- its messages
 pub two_tiles_messages : (q r : ℕ) → bracket_flow two_tiles q r ≡ messages_of_tiles q r
 two_tiles_messages = plan_flow two_tiles messages_of_tiles (λ r. (ran two_tiles messages_of_tiles r).kept) two_tiles_do
+
+abbrev pub messages_of_swappers : Messages Bracket
+messages_of_swappers zero = put (λ r. []) 1 (part_message 1 0 1 0 1 2 (Leaf 0) ∷ [])
+messages_of_swappers (suc zero) = put (λ r. []) 0 (part_message 1 1 0 0 0 1 (Leaf 1) ∷ part_message 2 1 0 0 1 2 (Pair (Leaf 0) (Leaf 1)) ∷ [])
+messages_of_swappers (suc (suc q)) = λ r. []
+
+two_swappers_runs : Runs two_swappers messages_of_swappers
+two_swappers_runs = record { fits = fits; sends = sends; takes = takes }
+  where
+    fits : (r : ℕ) → AllFit two_swappers.tiles (bracket_carrier two_swappers.tiles.sizes r) r (λ p. messages_of_swappers p r) (program two_swappers.programs r) fresh
+    fits zero = (omega arith, (((λ e. absurd (omega (arith, e))), (omega arith, omega arith)), (refl, ((omega arith, omega arith, omega arith), (((λ e. absurd (omega (arith, e))), refl), (refl, ((omega arith, omega arith, omega arith), (refl, tt))))))))
+    fits (suc zero) = (omega arith, (((λ e. absurd (omega (arith, e))), (omega arith, omega arith)), (refl, ((omega arith, omega arith, omega arith), (((λ e. absurd (omega (arith, e))), refl), (refl, tt))))))
+    fits (suc (suc r)) = tt
+
+    sends : (r : ℕ) → (ran two_swappers messages_of_swappers r).sent ≡ messages_of_swappers r
+    sends zero = refl
+    sends (suc zero) = fun_ext (λ k. twice (0 == k) (messages_of_swappers 1 0) (part_message 1 1 0 0 0 1 (Leaf 1) ∷ []))
+    sends (suc (suc r)) = refl
+
+    takes : (r p : ℕ) → (ran two_swappers messages_of_swappers r).used p ≡ length (messages_of_swappers p r)
+    takes zero zero = refl
+    takes zero (suc zero) = refl
+    takes zero (suc (suc p)) = simp (far 1 (suc (suc p)) (omega arith)) refl
+    takes (suc zero) zero = refl
+    takes (suc zero) (suc zero) = refl
+    takes (suc zero) (suc (suc p)) = simp (far 0 (suc (suc p)) (omega arith)) refl
+    takes (suc (suc r)) zero = simp (far 1 (suc (suc r)) (omega arith)) refl
+    takes (suc (suc r)) (suc zero) = simp (far 0 (suc (suc r)) (omega arith)) refl
+    takes (suc (suc r)) (suc (suc p)) = refl
+
+two_swappers_do : DoesAll two_swappers messages_of_swappers (λ r. (ran two_swappers messages_of_swappers r).kept)
+two_swappers_do = all_do two_swappers messages_of_swappers two_swappers_runs rising peers pairs
+  where
+    rising : (r : ℕ) → rises (exchanges (program two_swappers.programs r)) ≡ true
+    rising zero = refl
+    rising (suc zero) = refl
+    rising (suc (suc r)) = refl
+
+    peers : (r : ℕ) → all (has_peer 2 r) (exchanges (program two_swappers.programs r)) ≡ true
+    peers zero = refl
+    peers (suc zero) = refl
+    peers (suc (suc r)) = refl
+
+    pairs : (q r : ℕ) → map heading (filter (sends_to r) (exchanges (program two_swappers.programs q))) ≡ map heading (filter (takes_from q) (exchanges (program two_swappers.programs r)))
+    pairs zero zero = refl
+    pairs zero (suc zero) = refl
+    pairs zero (suc (suc r)) = simp (far 1 (suc (suc r)) (omega arith)) refl
+    pairs (suc zero) zero = refl
+    pairs (suc zero) (suc zero) = refl
+    pairs (suc zero) (suc (suc r)) = simp (far 0 (suc (suc r)) (omega arith)) refl
+    pairs (suc (suc q)) zero = simp (far 1 (suc (suc q)) (omega arith)) refl
+    pairs (suc (suc q)) (suc zero) = simp (far 0 (suc (suc q)) (omega arith)) refl
+    pairs (suc (suc q)) (suc (suc r)) = refl
+
+pub two_swappers_plan : IsPlan two_swappers
+two_swappers_plan = record {
+  formed = record { displays = refl; brackets = refl; shown = (omega arith, tt) };
+  matched = plan_matched two_swappers messages_of_swappers (λ r. (ran two_swappers messages_of_swappers r).kept) two_swappers_do;
+  sound = plan_sound two_swappers messages_of_swappers (λ r. (ran two_swappers messages_of_swappers r).kept) two_swappers_do once carries;
+}
+  where
+    once : (t i : ℕ) → t < 1 → i < get_or two_swappers.tiles.sizes t 0 → length (filter (has_place t i) (ran two_swappers messages_of_swappers (get_or two_swappers.tiles.displays t 0)).kept) ≡ 1
+    once zero zero l m = refl
+    once zero (suc zero) l m = refl
+    once zero (suc (suc i)) l m = absurd (omega arith)
+    once (suc t) i l m = absurd (omega arith)
+
+    carries : (r : ℕ) → AllByRecursion (λ p. get_or two_swappers.brackets p.tile Empty ≡ p.content) (ran two_swappers messages_of_swappers r).kept
+    carries zero = (refl, (refl, tt))
+    carries (suc zero) = tt
+    carries (suc (suc r)) = tt
+
+-- its messages
+pub two_swappers_messages : (q r : ℕ) → bracket_flow two_swappers q r ≡ messages_of_swappers q r
+two_swappers_messages = plan_flow two_swappers messages_of_swappers (λ r. (ran two_swappers messages_of_swappers r).kept) two_swappers_do

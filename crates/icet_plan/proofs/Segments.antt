@@ -14,10 +14,10 @@ use Rattle.icet_model.specs.Exchange.{of_op, exchanges}
 use Rattle.icet_model.specs.Run.{Carrier, Piece, MessageView, Local, put, given, with_kept, message_of, swapped, step, taken_by, message_for, run}
 use Rattle.icet_model.specs.Flow.{Messages, IsFlow}
 use Rattle.icet_plan.proofs.Lists.{all_weaker, filter-append, slice_get_append}
-use Rattle.icet_plan.proofs.Runs.{exchanges-append, run-append, run_uses, step_uses}
-use Rattle.icet_plan.proofs.Stuck.{one_passes, take_is}
-use Rattle.icet_plan.proofs.Agree.{AreMatched}
-use Rattle.icet_plan.proofs.Images.{local_same}
+use Rattle.icet_plan.proofs.LocalRuns.{exchanges-append, run-append, run_uses, step_uses}
+use Rattle.icet_plan.proofs.SomeEnabled.{one_passes, take_is}
+use Rattle.icet_plan.proofs.FlowIsOne.{AreMatched}
+use Rattle.icet_plan.proofs.CarrierImages.{local_same}
 use Rattle.icet_model.specs.Fit.{Tiles, shape_at, AllFit}
 use Rattle.icet_plan.proofs.Shapes.{fits_anyhow}
 

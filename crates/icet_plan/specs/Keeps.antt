@@ -1,17 +1,18 @@
 -- What the types of this crate keep.
-use Rattle.std.specs.Prelude.{◌≡◌, ℕ, ◌<◌, ◌≤◌, ◌^◌, List, length, get_or}
+use Rattle.std.specs.Prelude.{◌≡◌, ℕ, ◌<◌, ◌≤◌, ◌^◌, List, length, get_or, map}
 use Rattle.icet_model.specs.declared.exchange.Exchange.{Exchange}
 use Rattle.icet_model.specs.Exchange.{of_rank}
 use Rattle.icet_model.specs.Plan.{PlanView, IsPlan, plan_exchanges}
 use Rattle.icet_model.specs.Core.{after, sent, taken, IsLawful, IsEnabled}
 use Rattle.icet_plan.specs.Pairs.{PairsView, count_at}
+use Rattle.icet_plan.specs.Places.{places}
 
--- a plan, with each rank's exchanges beside its program
-pub record KeepsPlan (plan : PlanView) (index : List (List Exchange)) : Type 0 where
+-- a plan, with the places of each rank's exchanges beside its program
+pub record KeepsPlan (plan : PlanView) (index : List (List ℕ)) : Type 0 where
   pub is_plan : IsPlan plan
   pub tiles : length plan.tiles.sizes < 2 ^ 32
   pub ranks : length plan.programs < 2 ^ 32
-  pub index_is : index ≡ plan_exchanges plan
+  pub index_is : index ≡ map places plan.programs
 
 -- what contracts see of a core: the plan, how many messages a ring holds, and how many exchanges
 -- each rank has done

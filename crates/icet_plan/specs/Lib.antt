@@ -1,4 +1,5 @@
 pub mod Each
 pub mod Keeps
 pub mod Pairs
+pub mod Places
 pub mod Samples

@@ -1,16 +1,24 @@
 -- Small plans, written by hand.
-use Rattle.std.specs.Prelude.{ℕ, [], ◌∷◌}
+use Rattle.std.specs.Prelude.{ℕ, List, [], ◌∷◌}
 use Rattle.icet_model.specs.declared.bracket.Bracket.TheVariants.{Leaf, Pair}
 use Rattle.icet_model.specs.declared.exchange.Kind.TheVariants.{Send, Take}
 use Rattle.icet_model.specs.declared.exchange.Exchange.{Exchange}
-use Rattle.icet_model.specs.declared.exchange.Op.TheVariants.{Load, Join, Swap, Keep}
+use Rattle.icet_model.specs.declared.exchange.Op.{Op}
+use Rattle.icet_model.specs.declared.exchange.Op.TheVariants.{Load, Cut, Join, Swap, Keep}
 use Rattle.icet_model.specs.Plan.{PlanView}
 
+-- a send of the positions from lo up to hi
+abbrev pub send_part : ℕ → ℕ → ℕ → ℕ → ℕ → Exchange
+send_part round peer tile lo hi = record { round = round; kind = Send; peer = peer; tile = tile; lo = lo; hi = hi }
+
+abbrev pub take_part : ℕ → ℕ → ℕ → ℕ → ℕ → Exchange
+take_part round peer tile lo hi = record { round = round; kind = Take; peer = peer; tile = tile; lo = lo; hi = hi }
+
 abbrev pub send : ℕ → ℕ → ℕ → ℕ → Exchange
-send round peer tile hi = record { round = round; kind = Send; peer = peer; tile = tile; lo = 0; hi = hi }
+send round peer tile hi = send_part round peer tile 0 hi
 
 abbrev pub take : ℕ → ℕ → ℕ → ℕ → Exchange
-take round peer tile hi = record { round = round; kind = Take; peer = peer; tile = tile; lo = 0; hi = hi }
+take round peer tile hi = take_part round peer tile 0 hi
 
 -- one tile of one position: rank 1 hands its image to rank 0, which shows it
 abbrev pub two_ranks : PlanView
@@ -45,3 +53,23 @@ two_tiles = record {
       ∷ (Load 0 0 ∷ Swap (send 0 0 0 1) 0 ∷ Load 1 0 ∷ Swap (send 2 0 1 1) 0 ∷ Swap (take 3 0 1 1) 0 ∷ Keep 0 ∷ [])
       ∷ [];
 }
+
+-- one tile of two positions: two ranks by binary-swap. Each sends one half of its image and joins the
+-- other with the peer's; then rank 0 collects both halves. Both ranks send first in their round.
+abbrev pub two_swappers : PlanView
+two_swappers = record {
+  tiles = record { sizes = 2 ∷ []; displays = 0 ∷ [] };
+  brackets = Pair (Leaf 0) (Leaf 1) ∷ [];
+  programs =
+      (Load 0 0 ∷ Cut 0 1 1 ∷ Swap (send_part 1 1 0 1 2) 1 ∷ Swap (take_part 1 1 0 0 1) 1 ∷ Join 0 1 0 ∷ Keep 0 ∷ Swap (take_part 2 1 0 1 2) 1 ∷ Keep 1 ∷ [])
+      ∷ (Load 0 0 ∷ Cut 0 1 1 ∷ Swap (send_part 1 0 0 0 1) 0 ∷ Swap (take_part 1 0 0 1 2) 0 ∷ Join 0 1 0 ∷ Swap (send_part 2 0 0 1 2) 0 ∷ [])
+      ∷ [];
+}
+
+-- one rank with this program, and one tile of one position
+abbrev pub one_tile : List Op → PlanView
+one_tile ops = record { tiles = record { sizes = 1 ∷ []; displays = 0 ∷ [] }; brackets = Leaf 0 ∷ []; programs = ops ∷ [] }
+
+-- two ranks, of which rank 0 shows its own image where that of rank 1 is said
+abbrev pub another_leaf : PlanView
+another_leaf = record { tiles = record { sizes = 1 ∷ []; displays = 0 ∷ [] }; brackets = Leaf 1 ∷ []; programs = (Load 0 0 ∷ Keep 0 ∷ []) ∷ [] ∷ [] }

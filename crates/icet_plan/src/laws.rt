@@ -14,7 +14,7 @@ ghost use Rattle.icet_model.specs.Traffic.{pixel_messages};
 ghost use Rattle.icet_model.specs.Core.{IsLawful, HasLeft, SomeEnabled, IsEnabled, Reaches, AreEnabled, AllDone, start, after, after_all, total, made};
 
 /// No stuck state: in a lawful state in which some rank has an exchange left, some rank is enabled.
-#[tactic(auto, using(crate::proofs::Order::some_enabled))]
+#[tactic(auto, using(crate::proofs::CoreLaws::some_enabled))]
 pub fn some_enabled()
     ensures { (all : List (List Exchange)) (cap : ℕ) (now : List ℕ) → 1 ≤ cap → IsMatched all → IsLawful all cap now → HasLeft all now → SomeEnabled all cap now }
 {}
@@ -27,13 +27,13 @@ pub fn stays_enabled()
 
 /// Enabled events from the start that finish all ranks are as many as the plan has exchanges, and
 /// each rank makes its exchanges once each, in order.
-#[tactic(auto, using(crate::proofs::Order::same_end))]
+#[tactic(auto, using(crate::proofs::CoreLaws::same_end))]
 pub fn same_end()
     ensures { (all : List (List Exchange)) (cap : ℕ) (events : List ℕ) → AreEnabled all cap (start all) events → AllDone all (after_all (start all) events) → (length events ≡ total all) × ((r : ℕ) → made all (start all) events r ≡ of_rank all r) }
 {}
 
 /// From each lawful state to each in which no counter is lower there are enabled events.
-#[tactic(auto, using(crate::proofs::Order::reaches))]
+#[tactic(auto, using(crate::proofs::CoreLaws::reaches))]
 pub fn reaches()
     ensures { (all : List (List Exchange)) (cap : ℕ) (now then : List ℕ) → 1 ≤ cap → IsMatched all → IsLawful all cap now → IsLawful all cap then → ((r : ℕ) → get_or now r 0 ≤ get_or then r 0) → Reaches all cap now then }
 {}

@@ -7,6 +7,7 @@ mod pairs;
 pub mod plan;
 pub mod program;
 pub mod progress;
+pub mod samples;
 
 pub use icet_model::bracket::Bracket;
 pub use icet_model::exchange::{Exchange, Kind, Op};

@@ -1,8 +1,9 @@
 ghost use Rattle.std.specs.Prelude.{◌≡◌, ℕ, ◌<◌, ◌^◌, length, List, map, slice_get, Some, IfOk};
-ghost use Rattle.icet_model.specs.Exchange.{exchanges, of_rank};
+ghost use Rattle.icet_model.specs.Exchange.{of_rank};
+ghost use Rattle.icet_plan.specs.Places.{places};
 ghost use Rattle.icet_model.specs.Plan.{PlanView, IsPlan, plan_exchanges};
 
-use crate::program::Exchanges;
+use crate::program::Places;
 use crate::{Bracket, Exchange, Program};
 use icet_base::{NoMemory, Rank};
 use std::alloc::Global;
@@ -16,7 +17,7 @@ pub struct Plan {
     displays: Vec<Rank>,
     brackets: Vec<Bracket>,
     programs: Vec<Program>,
-    exchanges: Vec<Exchanges>,
+    places: Vec<Places>,
 }
 
 impl Model for Plan {
@@ -31,11 +32,11 @@ impl Model for Plan {
 
     ghost view = { λ p. record { tiles = record { sizes = p.sizes.items; displays = p.displays.items }; brackets = p.brackets.items; programs = p.programs.items } };
 
-    ghost invariant = { λ p. KeepsPlan (record { tiles = record { sizes = p.sizes.items; displays = p.displays.items }; brackets = p.brackets.items; programs = p.programs.items }) p.exchanges.items };
+    ghost invariant = { λ p. KeepsPlan (record { tiles = record { sizes = p.sizes.items; displays = p.displays.items }; brackets = p.brackets.items; programs = p.programs.items }) p.places.items };
 }
 
 impl Plan {
-    /// The plan of these tiles and programs, one program per rank. The three lists of tiles are
+    /// The plan of these tiles and programs, one program per rank; all are moved into it. The three lists of tiles are
     /// equally long, each display is a rank of the plan, and the whole is matched and sound.
     ///
     /// # Errors
@@ -53,13 +54,13 @@ impl Plan {
         requires plan { IsPlan (record { tiles = record { sizes = sizes.items; displays = displays.items }; brackets = brackets.items; programs = programs.items }) }
         ensures { IfOk result (λ p. p ≡ record { tiles = record { sizes = sizes.items; displays = displays.items }; brackets = brackets.items; programs = programs.items }) }
     {
-        let exchanges = exchanges_of(alloc, &programs)?;
+        let places = places_of(alloc, &programs)?;
         Ok(Plan {
             sizes,
             displays,
             brackets,
             programs,
-            exchanges,
+            places,
         })
     }
 
@@ -116,7 +117,7 @@ impl Plan {
         requires { rank < length self.now.programs }
         ensures { result ≡ length (of_rank (plan_exchanges self.now) rank) }
     {
-        self.exchanges[rank.0 as usize].len()
+        self.places[rank.0 as usize].len()
     }
 
     /// Exchange `i` of a rank of the plan, in the order of its program, where `i` is below their number.
@@ -125,17 +126,18 @@ impl Plan {
         requires place { i < length (of_rank (plan_exchanges self.now) rank) }
         ensures { slice_get (of_rank (plan_exchanges self.now) rank) i ≡ Some result }
     {
-        self.exchanges[rank.0 as usize].at(i)
+        let place = self.places[rank.0 as usize].at(i);
+        self.programs[rank.0 as usize].exchange_at(place)
     }
 }
 
-// the exchanges of each rank
-fn exchanges_of(alloc: Global, programs: &Vec<Program>) -> Result<Vec<Exchanges>, NoMemory>
-    ensures { IfOk result (λ all. all.items ≡ map exchanges programs.now.items) }
+// the places of each rank's exchanges in its program
+fn places_of(alloc: Global, programs: &Vec<Program>) -> Result<Vec<Places>, NoMemory>
+    ensures { IfOk result (λ all. all.items ≡ map places programs.now.items) }
 {
     let mut all = Vec::new(alloc);
     for program in programs {
-        all.push(program.exchanges(alloc)?)?;
+        all.push(program.places(alloc)?)?;
     }
     Ok(all)
 }

@@ -1,5 +1,5 @@
-ghost use Rattle.std.specs.Prelude.{◌≡◌, ◌<◌, ◌^◌, ◌++◌, length, slice_get, Some, IfOk};
-ghost use Rattle.icet_model.specs.Exchange.{of_op, exchanges};
+ghost use Rattle.std.specs.Prelude.{◌≡◌, ◌<◌, ◌^◌, ◌++◌, length, slice_get, Some, is_some, true, IfOk};
+ghost use Rattle.icet_plan.specs.Places.{place_of, places, swap_at};
 
 use crate::{Exchange, Op};
 use icet_base::NoMemory;
@@ -47,53 +47,63 @@ impl Program {
         self.ops[i as usize]
     }
 
-    // the exchanges, in order
-    pub(crate) fn exchanges(&self, alloc: Global) -> Result<Exchanges, NoMemory>
-        ensures { IfOk result (λ all. all ≡ exchanges self.now) }
+    // the places of the exchanges, in order
+    pub(crate) fn places(&self, alloc: Global) -> Result<Places, NoMemory>
+        ensures { IfOk result (λ all. all ≡ places self.now) }
     {
         let mut all = Vec::new(alloc);
-        for op in &self.ops {
-            push_exchange(&mut all, *op)?;
+        for place in 0..self.len() {
+            push_place(&mut all, place, self.op(place))?;
         }
-        Ok(Exchanges { all })
+        Ok(Places { all })
+    }
+
+    // the exchange at a place where one stands
+    pub(crate) fn exchange_at(&self, place: u32) -> Exchange
+        requires { is_some (swap_at self.now place) ≡ true }
+        ensures { swap_at self.now place ≡ Some result }
+    {
+        match self.op(place) {
+            Op::Swap { exchange, .. } => exchange,
+            _ => unreachable!(),
+        }
     }
 }
 
-// appends the operation's exchange, if it is one
-fn push_exchange(all: &mut Vec<Exchange>, op: Op) -> Result<(), NoMemory>
-    ensures { IfOk result (λ _. all.new.items ≡ all.old.items ++ of_op op) }
+// appends the place, if the operation there is an exchange
+fn push_place(all: &mut Vec<u32>, place: u32, op: Op) -> Result<(), NoMemory>
+    ensures { IfOk result (λ _. all.new.items ≡ all.old.items ++ place_of place op) }
 {
-    if let Op::Swap { exchange, .. } = op {
-        all.push(exchange)?;
+    if let Op::Swap { .. } = op {
+        all.push(place)?;
     }
     Ok(())
 }
 
-// the exchanges of one rank, in the order of its program
+// the places of one rank's exchanges, in the order of its program
 #[derive(Drop)]
-pub(crate) struct Exchanges {
-    all: Vec<Exchange>,
+pub(crate) struct Places {
+    all: Vec<u32>,
 }
 
-impl Model for Exchanges {
-    ghost use Rattle.std.specs.Prelude.{List, ◌<◌, ◌^◌, length};
-    ghost use Rattle.icet_model.specs.declared.exchange.Exchange.{Exchange};
+impl Model for Places {
+    ghost use Rattle.std.specs.Prelude.{ℕ, List, ◌<◌, ◌^◌, length};
 
-    ghost Value = { List Exchange };
+    ghost Value = { List ℕ };
 
-    ghost view = { λ e. e.all.items };
+    ghost view = { λ p. p.all.items };
 
-    ghost invariant = { λ e. length e.all.items < 2 ^ 32 };
+    ghost invariant = { λ p. length p.all.items < 2 ^ 32 };
 }
 
-impl Exchanges {
+impl Places {
     pub(crate) fn len(&self) -> u32
         ensures { result ≡ length self.now }
     {
         self.all.len() as u32
     }
 
-    pub(crate) fn at(&self, i: u32) -> Exchange
+    pub(crate) fn at(&self, i: u32) -> u32
         requires { i < length self.now }
         ensures { slice_get self.now i ≡ Some result }
     {

@@ -13,8 +13,8 @@ use Rattle.icet_model.specs.Fit.{FitsSwap, FitsSend, shape_at, shape_of}
 use Rattle.icet_model.specs.Ports.{at_list, IsAt}
 use Rattle.icet_model.specs.Ports.{by_peer}
 use Rattle.icet_plan.proofs.Lists.{take_next_suc, all_get}
-use Rattle.icet_plan.proofs.Runs.{exchanges-append}
-use Rattle.icet_plan.proofs.Machine.{local_moves, send_moves, take_moves}
+use Rattle.icet_plan.proofs.LocalRuns.{exchanges-append}
+use Rattle.icet_plan.proofs.MachineSteps.{local_moves, send_moves, take_moves}
 use Rattle.icet_rank.specs.Fits.{IsFilled, undisplayed, FitsAnyDisplay, AllFitAnyDisplay}
 use Rattle.icet_rank.specs.Moves.{Carried, Missed, Met}
 use Rattle.icet_rank.specs.Machine.{Names, Runs}

@@ -1,10 +1,8 @@
 -- A further point in a full image.
-use Rattle.std.proofs.Common.{◌≡◌, ◌≢◌, ℕ, zero, suc, ◌+◌, ◌-◌, ◌*◌, ◌/◌, ◌%◌, ◌<◌, ◌≤◌, Bool, true, false, cond, ◌&&◌, List, [], ◌∷◌, ◌++◌, map, replicate, length, get_or, set, refl, sym, ap, ◌∙◌, subst, arith, rules, Option, Some, None, inl, inr, ⊎_elim, add-one}
+use Rattle.std.proofs.Common.{◌≡◌, ◌≢◌, ℕ, zero, suc, ◌+◌, ◌*◌, ◌/◌, ◌%◌, ◌<◌, List, [], ◌∷◌, ◌++◌, map, replicate, get_or, set, refl, sym, ap, ◌∙◌, arith, Some, None}
 use Rattle.std.specs.List.{range_with_len}
-use Rattle.std.specs.Prelude.{fold, ◌==◌}
-use Rattle.std.proofs.lemmas.List.FromFn.{get_or-map-range_with_len, length-map-range_with_len}
+use Rattle.std.proofs.lemmas.List.FromFn.{get_or-map-range_with_len}
 use Rattle.std.proofs.lemmas.List.Sums.{fold-append}
-use Rattle.std.proofs.lemmas.Nat.{div-mul-add, mod-mul-add}
 use Rattle.std.proofs.lemmas.Bool.Decides.{nat_tests}
 use Rattle.icet_model.specs.declared.names.Mode.{Mode}
 use Rattle.icet_model.specs.declared.names.Mode.TheVariants.{Depth}
@@ -53,7 +51,7 @@ gives_here px py x y paint e d = grind (arith, nat_tests)
 same_pixel : (w i k : ℕ) → i % w ≡ k % w → i / w ≡ k / w → 0 < w → i ≡ k
 same_pixel w i k m d l = omega (arith, ap (λ q. w * q) d)
 
-wide : (k w h : ℕ) → k < w * h → 0 < w
+pub wide : (k w h : ℕ) → k < w * h → 0 < w
 wide k zero h l = absurd (let e : 0 * h ≡ 0 = grind arith in omega (arith, e))
 wide k (suc w) h l = omega arith
 
@@ -95,7 +93,7 @@ point_outside mode before px py paint area pixels same out =
     ∙ over_none mode (f i))
     ∙ ap g (sym z))
 
-blanks : (p : Pixel) (a n : ℕ) → replicate n p ≡ map (λ i. p) (range_with_len a n)
+pub blanks : (p : Pixel) (a n : ℕ) → replicate n p ≡ map (λ i. p) (range_with_len a n)
 blanks p a zero = refl
 blanks p a (suc n) = ap (λ xs. p ∷ xs) (blanks p (a + 1) n)
 

@@ -1,1 +1,3 @@
 pub mod FullImages
+pub mod Hulls
+pub mod Outside

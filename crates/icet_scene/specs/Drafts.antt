@@ -1,5 +1,5 @@
 -- The part of a scene that was read so far.
-use Rattle.std.specs.Prelude.{◌≡◌, ℕ, ◌≤◌, ◌-◌, All, List, [], ◌∷◌, length, map}
+use Rattle.std.specs.Prelude.{◌≡◌, ℕ, ◌≤◌, ◌-◌, All, List, [], length, map}
 use Rattle.icet_model.specs.Scene.{Said, ranks_in, tiles_in, shapes_in}
 use Rattle.icet_model.specs.Tiles.{IsTileArea}
 use Rattle.icet_tiles.specs.declared.layout.Tile.{Tile}
@@ -12,7 +12,7 @@ use Rattle.icet_scene.specs.Lines.{placed_of, place_behind}
 
 pub record HasRanks (ranks : ℕ) : Type 0 where
   pub some : 1 ≤ ranks
-  pub few : ranks ≤ 1
+  pub few : ranks ≤ 64
 
 pub record HasBody (ranks : ℕ) (tiles : List Tile) (shapes : List (ℕ × Shape)) : Type 0 where
   pub ranked : HasRanks ranks

@@ -35,7 +35,7 @@ place_behind (EndSaid ∷ before) = AfterEnd
 abbrev pub IsLawfulAt : Place → ℕ → Line → Type 0
 IsLawfulAt Start ranks Head = Unit {0}
 IsLawfulAt AfterHead ranks (Mode mode) = Unit {0}
-IsLawfulAt AfterMode ranks (Ranks count) = (1 ≤ count) × (count ≤ 1)
+IsLawfulAt AfterMode ranks (Ranks count) = (1 ≤ count) × (count ≤ 64)
 IsLawfulAt AfterRanks ranks (Tile tile) = IsTileArea tile.area × (tile.display ≤ ranks - 1)
 IsLawfulAt InBody ranks (ShapeLine rank shape) = (rank ≤ ranks - 1) × IsInRange shape
 IsLawfulAt InBody ranks End = Unit {0}

@@ -42,7 +42,7 @@ const CHANNEL: (u32, u32) = (0, 255);
 
 const DEPTH: (u32, u32) = (0, 16_777_214);
 
-const COUNT: (u32, u32) = (1, 1);
+const COUNT: (u32, u32) = (1, 64);
 
 fn is_pair(line: &[u8], first: &[u8], second: &[u8]) -> bool
     ensures { result ≡ is_pair first.now second.now (words_of line.now) }

@@ -2,6 +2,7 @@ ghost use Rattle.std.specs.Prelude.{◌≡◌, ◌∷◌, [], IfOk, All, map};
 ghost use Rattle.icet_model.specs.Tiles.{IsTileArea};
 ghost use Rattle.icet_tiles.specs.Layouts.{tile_view};
 ghost use Rattle.icet_scene.specs.Lines.{placed_of};
+ghost use Rattle.icet_scene.specs.Scenes.{IsLawfulScene};
 ghost use Rattle.icet_model.specs.Jobs.{shapes_of};
 ghost use Rattle.icet_raster.specs.Shapes.{drawing_of, IsInRange};
 
@@ -39,6 +40,14 @@ impl Model for Scene {
 }
 
 impl Scene {
+    /// How many ranks there are.
+    pub fn ranks(&self) -> u32
+        ensures count { result ≡ self.now.ranks }
+        ensures lawful { IsLawfulScene self.now }
+    {
+        self.ranks
+    }
+
     /// The shapes of a rank, in the order of the scene.
     pub fn shapes_of(&self, alloc: Global, rank: Rank) -> Result<Vec<Shape>, NoMemory>
         ensures shapes { IfOk result (λ shapes. map drawing_of shapes.items ≡ shapes_of self.now.shapes rank) }
@@ -51,7 +60,6 @@ impl Scene {
     pub fn tile(&self) -> Tile
         ensures tile { self.now.tiles ≡ tile_view result ∷ [] }
         ensures area { IsTileArea result.area }
-        ensures one_rank { self.now.ranks ≡ 1 }
     {
         self.layout.tile(0)
     }

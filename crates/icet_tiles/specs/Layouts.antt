@@ -1,5 +1,5 @@
 -- The definitions' tiles for those of the code, and which tiles make a layout.
-use Rattle.std.specs.Prelude.{ℕ, ◌≤◌, ◌≢◌, All, AllPairs, List, length}
+use Rattle.std.specs.Prelude.{◌≤◌, ◌≢◌, All, AllPairs, List, length}
 use Rattle.icet_model.specs.Tiles.{TileView, area_of, IsTileArea}
 use Rattle.icet_tiles.specs.declared.layout.Tile.{Tile}
 

@@ -1,1 +1,2 @@
+pub mod Contributors
 pub mod Layouts

@@ -1,5 +1,5 @@
 ghost use Rattle.std.specs.Prelude.{◌≡◌, ◌<◌, ◌≤◌, Some, length, map, slice_get};
-ghost use Rattle.icet_model.specs.Tiles.{IsTileArea};
+ghost use Rattle.icet_model.specs.Tiles.{IsTileArea, IsLayout as IsLayoutOfViews};
 
 use icet_base::{Rank, Rect};
 use std::marker::Model;
@@ -41,8 +41,10 @@ impl Layout {
     }
 
     /// How many tiles there are.
+    #[tactic(auto, using(crate::proofs::LayoutViews::layout_view))]
     pub fn count(&self) -> u32
         ensures count { result ≡ length self.now }
+        ensures layout { IsLayoutOfViews self.now }
         ensures some { 1 ≤ result }
         ensures few { result ≤ 16 }
     {

@@ -1,5 +1,4 @@
-use Rattle.std.proofs.Common.{◌≤◌, ◌-◌, length, take}
-use Rattle.std.specs.Io.KnownBytes.{Appends}
+use Rattle.std.proofs.Common.{◌-◌, length}
 use Rattle.icet_base.specs.PenText.{Writing}
 use Rattle.icet_base.proofs.pen.write_all.Given as goal
 

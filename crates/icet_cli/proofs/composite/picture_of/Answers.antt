@@ -1,9 +1,17 @@
-use Rattle.std.proofs.Common.{refl, ap, map, ◌∙◌}
-use Rattle.std.proofs.lemmas.Result.{IfOk-weaker}
-use Rattle.icet_raster.specs.Shapes.{drawing_of}
-use Rattle.icet_tiles.specs.Layouts.{tile_view}
-use Rattle.icet_cli.proofs.Single.{pictured}
+use Rattle.std.proofs.Common.{ap, ◌∙◌}
+use Rattle.icet_model.specs.Tiles.{area_of}
+use Rattle.icet_cli.specs.Pictures.{joined_images, first_ranks}
+use Rattle.icet_cli.proofs.Pictures.{no_rank, next_rank}
 use Rattle.icet_cli.proofs.composite.picture_of.Goals as goal
 
-pub returns : goal.returns
-returns c = IfOk-weaker c.draw.result _ _ (λ image e. λ tile t. pictured c.args.scene.now image c.scene.inside.mode (map drawing_of c.as_slice.result.now) (tile_view c.tile.result) tile c.tile.ensures.one_rank (ap (λ s. s.mode) c.scene.view_is) (ap (map drawing_of) c.as_slice.ensures.value ∙ c.in_ok-shapes.ensures.shapes) c.tile.ensures.tile t e) c.draw.ensures
+pub loop-r-init : goal.loop-r-init
+loop-r-init c = c.in_ok-picture.ensures ∙ no_rank c.args.scene.now (area_of c.tile.result.area)
+
+pub loop-r-preserved : goal.loop-r-preserved
+loop-r-preserved c =
+    let area = area_of c.tile.result.area in
+    c.join_behind.ensures
+    ∙ ap (λ mode. joined_images mode c.loop-r.picture c.in_ok-image.image) (ap (λ s. s.mode) c.scene.view_is)
+    ∙ ap (λ front. joined_images c.args.scene.now.mode front c.in_ok-image.image) c.loop-r.invariant
+    ∙ ap (joined_images c.args.scene.now.mode (first_ranks c.args.scene.now area c.loop-r.r)) c.in_ok-image.ensures
+    ∙ next_rank c.args.scene.now area c.loop-r.r

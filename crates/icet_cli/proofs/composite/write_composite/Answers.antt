@@ -1,6 +1,5 @@
-use Rattle.std.proofs.Common.{subst}
 use Rattle.icet_tiles.specs.Layouts.{tile_view}
-use Rattle.icet_cli.proofs.Single.{one_text}
+use Rattle.icet_cli.proofs.Pictures.{one_text}
 use Rattle.icet_cli.proofs.composite.write_composite.Goals as goal
 
 pub returns-clause-puts : goal.returns-clause-puts

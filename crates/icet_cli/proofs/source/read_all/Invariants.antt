@@ -1,4 +1,4 @@
-use Rattle.std.proofs.Common.{◌≡◌, ◌+◌, ◌-◌, vec_len}
+use Rattle.std.proofs.Common.{◌≡◌, ◌-◌, vec_len}
 use Rattle.icet_cli.specs.Reading.{HasRead}
 use Rattle.icet_cli.proofs.source.read_all.Given as goal
 

@@ -1,4 +1,4 @@
-use Rattle.std.proofs.Common.{◌≡◌, ◌++◌, length, map, sym, ap, ◌∙◌, subst, arith}
+use Rattle.std.proofs.Common.{reverse, ◌≡◌, ◌++◌, length, map, sym, ap, ◌∙◌, subst, arith}
 use Rattle.std.proofs.lemmas.List.{length-map}
 use Rattle.icet_rank.specs.Machine.{MachineView}
 use Rattle.icet_net.specs.Net.{HullView, IsHull, blank_canvases}
@@ -19,8 +19,8 @@ close_pairs-requires-clause-closable g c κs within =
     let v = c.hull.view_is in
     let running = subst (AreRunning g.W.In.Inbox.taken g.W.In.Inbox.room g.W.Out.Outbox.sent g.W.Out.Outbox.room) c.deref.ensures.value c.look_at.ensures in
     hull_closable _ _ _ _ _ _ c.args.hull c.args.ranks.items (subst IsHull v c.hull.invariant.hull_is) c.requires.hulls running c.requires.done _ _ _
-    (ap (map (λ p. p.outboxes.items)) c.deref_mut.ensures.value ∙ c.take_apart-parts.ensures.outboxes)
-    (ap (map (λ p. p.inboxes.items)) c.deref_mut.ensures.value ∙ c.take_apart-parts.ensures.inboxes)
+    (ap (map (λ p. reverse p.outboxes.items)) c.deref_mut.ensures.value ∙ c.take_apart-parts.ensures.outboxes)
+    (ap (map (λ p. reverse p.inboxes.items)) c.deref_mut.ensures.value ∙ c.take_apart-parts.ensures.inboxes)
     (c.deref-2.ensures.value ∙ ap (λ (h : HullView). h.pairs) v)
 
 pub show_all-requires-clause-ranks : goal.show_all-requires-clause-ranks
@@ -43,8 +43,8 @@ show_all-requires-clause-showable g c κs within =
     let kept = ap (map (λ p. p.kept.items)) back ∙ (c.close_pairs.ensures.kept ∙ (ap (map (λ p. p.kept.items)) c.deref_mut.ensures.value ∙ c.take_apart-parts.ensures.kept)) in
     let v = c.hull.view_is in
     let running = subst (AreRunning g.W.In.Inbox.taken g.W.In.Inbox.room g.W.Out.Outbox.sent g.W.Out.Outbox.room) c.deref.ensures.value c.look_at.ensures in
-    let outs = ap (map (λ p. p.outboxes.items)) c.deref_mut.ensures.value ∙ c.take_apart-parts.ensures.outboxes in
-    let ins = ap (map (λ p. p.inboxes.items)) c.deref_mut.ensures.value ∙ c.take_apart-parts.ensures.inboxes in
+    let outs = ap (map (λ p. reverse p.outboxes.items)) c.deref_mut.ensures.value ∙ c.take_apart-parts.ensures.outboxes in
+    let ins = ap (map (λ p. reverse p.inboxes.items)) c.deref_mut.ensures.value ∙ c.take_apart-parts.ensures.inboxes in
     let pairs = c.deref-2.ensures.value ∙ ap (λ (h : HullView). h.pairs) v in
     let all = taken_of g.W.In.Inbox.taken g.W.Out.Outbox.sent _ _ _ _ _ _ outs ins pairs c.close_pairs.ensures.taken in
     hull_showable _ _ _ _ _ _ c.args.hull c.args.ranks.items (subst IsHull v c.hull.invariant.hull_is) c.requires.hulls running c.requires.done all _ _ _ kept (c.hull.invariant.canvases_are ∙ ap (λ (h : HullView). blank_canvases h.sides h.strands) v) (ap (λ (h : HullView). h.plan.tiles) v)
@@ -62,8 +62,8 @@ returns-clause-pictures g c =
     let kept = ap (map (λ p. p.kept.items)) back ∙ (c.close_pairs.ensures.kept ∙ (ap (map (λ p. p.kept.items)) c.deref_mut.ensures.value ∙ c.take_apart-parts.ensures.kept)) in
     let v = c.hull.view_is in
     let running = subst (AreRunning g.W.In.Inbox.taken g.W.In.Inbox.room g.W.Out.Outbox.sent g.W.Out.Outbox.room) c.deref.ensures.value c.look_at.ensures in
-    let outs = ap (map (λ p. p.outboxes.items)) c.deref_mut.ensures.value ∙ c.take_apart-parts.ensures.outboxes in
-    let ins = ap (map (λ p. p.inboxes.items)) c.deref_mut.ensures.value ∙ c.take_apart-parts.ensures.inboxes in
+    let outs = ap (map (λ p. reverse p.outboxes.items)) c.deref_mut.ensures.value ∙ c.take_apart-parts.ensures.outboxes in
+    let ins = ap (map (λ p. reverse p.inboxes.items)) c.deref_mut.ensures.value ∙ c.take_apart-parts.ensures.inboxes in
     let pairs = c.deref-2.ensures.value ∙ ap (λ (h : HullView). h.pairs) v in
     let all = taken_of g.W.In.Inbox.taken g.W.Out.Outbox.sent _ _ _ _ _ _ outs ins pairs c.close_pairs.ensures.taken in
     c.of.ensures ∙ hull_pictures _ _ _ _ _ _ c.args.hull c.args.ranks.items (subst IsHull v c.hull.invariant.hull_is) c.requires.hulls running c.requires.done all _ _ _ _ kept (c.hull.invariant.canvases_are ∙ ap (λ (h : HullView). blank_canvases h.sides h.strands) v) (ap (λ (h : HullView). h.plan.tiles) v) c.show_all.ensures
@@ -72,8 +72,8 @@ pub returns-clause-log : goal.returns-clause-log
 returns-clause-log g c =
     let v = c.hull.view_is in
     let running = subst (AreRunning g.W.In.Inbox.taken g.W.In.Inbox.room g.W.Out.Outbox.sent g.W.Out.Outbox.room) c.deref.ensures.value c.look_at.ensures in
-    let outs = ap (map (λ p. p.outboxes.items)) c.deref_mut.ensures.value ∙ c.take_apart-parts.ensures.outboxes in
-    let ins = ap (map (λ p. p.inboxes.items)) c.deref_mut.ensures.value ∙ c.take_apart-parts.ensures.inboxes in
+    let outs = ap (map (λ p. reverse p.outboxes.items)) c.deref_mut.ensures.value ∙ c.take_apart-parts.ensures.outboxes in
+    let ins = ap (map (λ p. reverse p.inboxes.items)) c.deref_mut.ensures.value ∙ c.take_apart-parts.ensures.inboxes in
     let pairs = c.deref-2.ensures.value ∙ ap (λ (h : HullView). h.pairs) v in
     let all = taken_of g.W.In.Inbox.taken g.W.Out.Outbox.sent _ _ _ _ _ _ outs ins pairs c.close_pairs.ensures.taken in
     c.close_pairs.ensures.log

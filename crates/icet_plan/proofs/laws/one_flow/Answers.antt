@@ -1,6 +1,6 @@
 use Rattle.icet_model.specs.Flow.{program, flow}
-use Rattle.icet_plan.proofs.Agree.{flow_unique}
-use Rattle.icet_plan.proofs.Pictures.{flow_is, matched_programs}
+use Rattle.icet_plan.proofs.FlowIsOne.{flow_unique}
+use Rattle.icet_plan.proofs.PlanFlows.{flow_is, matched_programs}
 use Rattle.icet_plan.proofs.laws.one_flow.Goals as goal
 
 pub returns-clause-flow : goal.returns-clause-flow

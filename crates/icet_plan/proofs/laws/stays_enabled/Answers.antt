@@ -1,4 +1,4 @@
-use Rattle.icet_plan.proofs.Both.{stays_enabled, same_state}
+use Rattle.icet_plan.proofs.TwoEvents.{stays_enabled, same_state}
 use Rattle.icet_plan.proofs.laws.stays_enabled.Goals as goal
 
 pub returns-clause-stays : goal.returns-clause-stays

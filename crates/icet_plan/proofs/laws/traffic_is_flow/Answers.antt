@@ -1,4 +1,4 @@
-use Rattle.icet_plan.proofs.Pictures.{pixel_flow_is_traffic}
+use Rattle.icet_plan.proofs.PlanFlows.{pixel_flow_is_traffic}
 use Rattle.icet_plan.proofs.laws.traffic_is_flow.Goals as goal
 
 pub returns : goal.returns

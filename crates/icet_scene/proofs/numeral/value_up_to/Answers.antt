@@ -1,5 +1,4 @@
-use Rattle.std.proofs.Common.{◌≡◌, ◌<◌, ◌*◌, ◌+◌, ◌-◌, arith, sym, length, take, get_or}
-use Rattle.icet_model.specs.Numeral.{value_from}
+use Rattle.std.proofs.Common.{◌+◌, arith, sym}
 use Rattle.icet_scene.proofs.Values.{value_more, value_exceeds}
 use Rattle.icet_scene.proofs.numeral.value_up_to.Goals as goal
 

@@ -1,6 +1,5 @@
-use Rattle.std.proofs.Common.{◌≡◌, ◌<◌, ◌+◌, ◌-◌, ap, sym, ◌∙◌, arith, length, drop, take, ◌∷◌, length-drop, ℕ}
+use Rattle.std.proofs.Common.{◌≡◌, ◌<◌, ◌+◌, sym, arith, length, drop, length-drop}
 use Rattle.std.proofs.lemmas.List.{take_rest, drop_all, drop-drop}
-use Rattle.icet_model.specs.Lines.{lines_of}
 use Rattle.icet_scene.proofs.Splits.{lines_none, lines_some}
 use Rattle.icet_scene.proofs.read.line_at.Goals as goal
 

@@ -1,6 +1,6 @@
-use Rattle.std.proofs.Common.{sym, ap, ◌∙◌, ◌≡◌, ◌<◌, ◌≤◌, arith, rules, length, subst, ℕ}
+use Rattle.std.proofs.Common.{sym, ◌≡◌, arith, rules, length}
 use Rattle.std.specs.Option.{option_copied}
-use Rattle.icet_scene.specs.Words.{words_behind, HasRead}
+use Rattle.icet_scene.specs.Words.{words_behind}
 use Rattle.icet_scene.proofs.Numbers.{read_short, read_misfit, read_long, read_whole, numbers_within}
 use Rattle.icet_scene.proofs.words.numbers.Goals as goal
 

@@ -1,4 +1,4 @@
-use Rattle.std.proofs.Common.{arith, rules, ◌≡◌, ◌<◌, ◌+◌, ◌≤◌, length, ℕ, List, take, drop}
+use Rattle.std.proofs.Common.{rules, ◌≡◌, ◌+◌, ◌≤◌, length, take, drop}
 use Rattle.std.proofs.lemmas.List.{drop_all}
 use Rattle.icet_base.proofs.MemoryLemmas.{read_gives}
 use Rattle.icet_base.proofs.memory.MemSourceSource.read.Goals as goal

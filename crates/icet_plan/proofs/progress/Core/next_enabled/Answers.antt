@@ -1,7 +1,7 @@
 use Rattle.std.proofs.Common.{◌<◌, ℕ, sym, ap, length, subst, arith, rules}
 use Rattle.icet_model.specs.Core.{AllDone}
 use Rattle.icet_plan.specs.Keeps.{CoreView, CanGo, all_of}
-use Rattle.icet_plan.proofs.Tally.{none_enabled}
+use Rattle.icet_plan.proofs.CoreCounts.{none_enabled}
 use Rattle.icet_plan.proofs.progress.Core.next_enabled.Goals as goal
 
 pub returns-clause-none : goal.returns-clause-none

@@ -1,5 +1,5 @@
 use Rattle.std.proofs.Common.{List, ℕ, ap, ◌∙◌, replicate}
-use Rattle.icet_plan.proofs.Tally.{zeros_start}
+use Rattle.icet_plan.proofs.CoreCounts.{zeros_start}
 use Rattle.icet_plan.proofs.progress.Core.start.Goals as goal
 
 pub returns : goal.returns

@@ -1,7 +1,7 @@
 use Rattle.std.proofs.Common.{◌≡◌, ◌<◌, ◌+◌, sym, subst, get_or, length, Some}
 use Rattle.icet_model.specs.Core.{due, CanSwap}
 use Rattle.icet_plan.specs.Keeps.{CoreView, all_of}
-use Rattle.icet_plan.proofs.Tally.{took_on, take_room}
+use Rattle.icet_plan.proofs.CoreCounts.{took_on, take_room}
 use Rattle.icet_plan.proofs.progress.Core.take.Goals as goal
 
 pub raise-requires-clause-room : goal.raise-requires-clause-room

@@ -3,7 +3,7 @@ use Rattle.std.proofs.lemmas.List.{length-map}
 use Rattle.icet_model.specs.Exchange.{exchanges}
 use Rattle.icet_model.specs.Core.{IsLawful}
 use Rattle.icet_plan.specs.Keeps.{CoreView, all_of}
-use Rattle.icet_plan.proofs.Tally.{all_finished}
+use Rattle.icet_plan.proofs.CoreCounts.{all_finished}
 use Rattle.icet_plan.proofs.progress.Core.unfinished.Goals as goal
 
 pub returns-clause-none : goal.returns-clause-none

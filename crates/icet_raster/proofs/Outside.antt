@@ -1,0 +1,102 @@
+-- Where a fragment is drawn the box has the pixel, so nothing is drawn outside the box.
+use Rattle.std.proofs.Common.{◌≡◌, ℕ, ◌+◌, ◌*◌, ◌/◌, ◌%◌, ◌<◌, ℤ, pos, ◌≤ℤ◌, ◌<ℤ◌, true, false, List, [], ◌∷◌, replicate, refl, sym, ap, ◌∙◌, subst, arith, Option, Some, None}
+use Rattle.std.specs.Prelude.{fold}
+use Rattle.std.specs.Int.{int_max, int_min}
+use Rattle.std.specs.Int.Signed.{lt_z}
+use Rattle.std.proofs.Math.Nat.{mul-le-mul_left}
+use Rattle.std.proofs.lemmas.Int.{ints, clamps}
+use Rattle.std.proofs.lemmas.Bool.Decides.{nat_tests}
+use Rattle.icet_model.specs.declared.names.Mode.{Mode}
+use Rattle.icet_model.specs.declared.names.Mode.TheVariants.{Depth}
+use Rattle.icet_model.specs.declared.names.Rect.{Rect}
+use Rattle.icet_model.specs.Pixel.{FragmentView, Pixel}
+use Rattle.icet_model.specs.Raster.{Drawing, Point, Area, gives, drawn_over, drawn, full_image}
+use Rattle.icet_model.specs.Boxes.{right_of, bottom_of, HasPixel, meets, hull, hull_of, bounds, box, rect_of, reaches_into}
+use Rattle.icet_raster.specs.Boxes.{CoversPixel}
+use Rattle.icet_raster.proofs.Hulls.{box_from, right-hull, bottom-hull}
+use Rattle.icet_raster.proofs.FullImages.{map_same, blanks, wide}
+
+-- the hull has the pixels of both
+hull_left : (one other : Rect) (x y : ℤ) → HasPixel one x y → HasPixel (hull one other) x y
+hull_left one other x y h =
+    let right = right-hull one other in
+    let bottom = bottom-hull one other in
+    record { left = omega (arith, ints, clamps); right = omega (arith, ints, clamps); top = omega (arith, ints, clamps); bottom = omega (arith, ints, clamps) }
+
+hull_right : (one other : Rect) (x y : ℤ) → HasPixel other x y → HasPixel (hull one other) x y
+hull_right one other x y h =
+    let right = right-hull one other in
+    let bottom = bottom-hull one other in
+    record { left = omega (arith, ints, clamps); right = omega (arith, ints, clamps); top = omega (arith, ints, clamps); bottom = omega (arith, ints, clamps) }
+
+covers_left : (one other : Option Rect) (x y : ℕ) → CoversPixel one x y → CoversPixel (hull_of one other) x y
+covers_left None other x y c = absurd (let e = c.box_is in cc)
+covers_left (Some one) None x y c = c
+covers_left (Some one) (Some other) x y c = record { rect = hull one other; box_is = refl; pixel = hull_left one other (pos x) (pos y) (let e : c.rect ≡ one = (let f = c.box_is in cc) in subst (λ rect. HasPixel rect (pos x) (pos y)) e c.pixel) }
+
+covers_right : (one other : Option Rect) (x y : ℕ) → CoversPixel other x y → CoversPixel (hull_of one other) x y
+covers_right None other x y c = c
+covers_right (Some one) None x y c = absurd (let e = c.box_is in cc)
+covers_right (Some one) (Some other) x y c = record { rect = hull one other; box_is = refl; pixel = hull_right one other (pos x) (pos y) (let e : c.rect ≡ other = (let f = c.box_is in cc) in subst (λ rect. HasPixel rect (pos x) (pos y)) e c.pixel) }
+
+-- a point gives its paint at its own pixel alone
+point_gives : (px py x y : ℕ) (paint fragment : FragmentView) → gives (Point px py paint) x y ≡ Some fragment → (px ≡ x) × (py ≡ y)
+point_gives px py x y paint fragment e = (grind (arith, nat_tests), grind (arith, nat_tests))
+
+gives_in_bounds : (shape : Drawing) (x y : ℕ) (fragment : FragmentView) → gives shape x y ≡ Some fragment → CoversPixel (bounds shape) x y
+gives_in_bounds (Point px py paint) x y fragment e =
+    let at = point_gives px py x y paint fragment e in
+    let column = at.0 in
+    let row = at.1 in
+    record {
+      rect = record { x = pos px; y = pos py; w = 1; h = 1 };
+      box_is = refl;
+      pixel = record { left = omega (arith, ints); right = omega (arith, ints); top = omega (arith, ints); bottom = omega (arith, ints) };
+    }
+
+over_covers : (mode : Mode) (before : Pixel) (shape : Drawing) (start : Option Rect) (x y : ℕ) (fragment : FragmentView) → ((f : FragmentView) → before ≡ Some f → CoversPixel start x y) → drawn_over mode before (gives shape x y) ≡ Some fragment → CoversPixel (hull_of start (bounds shape)) x y
+over_covers Depth (Some f) shape start x y fragment h e = covers_left start (bounds shape) x y (h f refl)
+over_covers Depth None shape start x y fragment h e = covers_right start (bounds shape) x y (gives_in_bounds shape x y fragment e)
+
+drawn_from : (mode : Mode) (shapes : List Drawing) (before : Pixel) (start : Option Rect) (x y : ℕ) (fragment : FragmentView) → ((f : FragmentView) → before ≡ Some f → CoversPixel start x y) → fold (λ p shape. drawn_over mode p (gives shape x y)) before shapes ≡ Some fragment → CoversPixel (box_from start shapes) x y
+drawn_from mode [] before start x y fragment h e = h fragment e
+drawn_from mode (shape ∷ shapes) before start x y fragment h e =
+    drawn_from mode shapes (drawn_over mode before (gives shape x y)) (hull_of start (bounds shape)) x y fragment (λ f g. over_covers mode before shape start x y f h g) e
+
+pub drawn_in_box : (mode : Mode) (shapes : List Drawing) (x y : ℕ) (fragment : FragmentView) → drawn mode shapes x y ≡ Some fragment → CoversPixel (box shapes) x y
+drawn_in_box mode shapes x y fragment e = drawn_from mode shapes None None x y fragment (λ f g. absurd (cc)) e
+
+-- ranges with a number in both overlap
+one_in_both : (a b c d z : ℤ) → a ≤ℤ z → z <ℤ b → c ≤ℤ z → z <ℤ d → lt_z (int_max a c) (int_min b d) ≡ true
+one_in_both a b c d z p q r s = grind (arith, ints, clamps)
+
+pixel_meets : (one other : Rect) (x y : ℤ) → HasPixel one x y → HasPixel other x y → meets one other ≡ true
+pixel_meets one other x y g h =
+    let across = one_in_both one.x (right_of one) other.x (right_of other) x g.left g.right h.left h.right in
+    let down = one_in_both one.y (bottom_of one) other.y (bottom_of other) y g.top g.bottom h.top h.bottom in
+    rw (across, down) refl
+
+-- pixel i of an area lies in it
+in_area : (area : Area) (i : ℕ) → i < area.w * area.h → HasPixel (rect_of area) (pos (area.x + i % area.w)) (pos (area.y + i / area.w))
+in_area area i l =
+    let w : 0 < area.w = wide i area.w area.h l in
+    let column : i % area.w < area.w = omega arith in
+    let row : i / area.w < area.h = grind (arith, mul-le-mul_left) in
+    record { left = omega (arith, ints); right = omega (arith, ints); top = omega (arith, ints); bottom = omega (arith, ints) }
+
+covered_meets : (bounds : Option Rect) (area : Area) (i : ℕ) → i < area.w * area.h → CoversPixel bounds (area.x + i % area.w) (area.y + i / area.w) → reaches_into bounds area ≡ true
+covered_meets bounds area i l c = ap (λ b. reaches_into b area) c.box_is ∙ pixel_meets c.rect (rect_of area) _ _ c.pixel (in_area area i l)
+
+none_drawn : (mode : Mode) (shapes : List Drawing) (area : Area) (i : ℕ) → reaches_into (box shapes) area ≡ false → i < area.w * area.h → drawn mode shapes (area.x + i % area.w) (area.y + i / area.w) ≡ None
+none_drawn mode shapes area i out l = by (drawn mode shapes (area.x + i % area.w) (area.y + i / area.w)) refl
+  where
+    by : (p : Pixel) → drawn mode shapes (area.x + i % area.w) (area.y + i / area.w) ≡ p → p ≡ None
+    by None e = refl
+    by (Some f) e = absurd (let met = covered_meets (box shapes) area i l (drawn_in_box mode shapes _ _ f e) in cc)
+
+pub blank_outside : (mode : Mode) (shapes : List Drawing) (area : Area) → reaches_into (box shapes) area ≡ false → full_image mode shapes area ≡ replicate (area.w * area.h) None
+blank_outside mode shapes area out =
+    map_same (λ i. drawn mode shapes (area.x + i % area.w) (area.y + i / area.w)) (λ i. None) 0 (area.w * area.h) (λ i l.
+    let z : 0 + i ≡ i = omega arith in
+    ap (λ k. drawn mode shapes (area.x + k % area.w) (area.y + k / area.w)) z ∙ none_drawn mode shapes area i out l)
+    ∙ sym (blanks None 0 (area.w * area.h))

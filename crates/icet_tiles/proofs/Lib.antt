@@ -1,0 +1,2 @@
+pub mod LayoutViews
+pub mod Meeting
