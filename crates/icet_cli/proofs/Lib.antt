@@ -1,3 +1,6 @@
+pub mod Capacities
+pub mod Completeness
 pub mod Consumed
-pub mod Pictures
-pub mod ThreeWords
+pub mod Ended
+pub mod Entries
+pub mod Options

@@ -1,6 +1,6 @@
+pub mod Commands
+pub mod Endings
 pub mod Notes
 pub mod Outcome
-pub mod Pictures
 pub mod Reading
 pub mod Statuses
-pub mod Words

@@ -1,12 +1,12 @@
 //! The program `icet`: composites what parallel renderers drew apart.
 #![tactic(auto)]
 
-pub mod composite;
+pub mod command;
+pub mod doing;
 pub mod notes;
 pub mod run;
 pub mod source;
 pub mod status;
-pub mod words;
 
 use icet_base::{PlainGate, Sink, Source, StdSink, StdSource};
 use icet_ring::{MemWires, Wires};

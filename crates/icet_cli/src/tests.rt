@@ -1,6 +1,7 @@
 ghost use Rattle.std.specs.Prelude.{◌<◌};
 
 use super::*;
+use command::{Job, read_words};
 use icet_base::{MemSink, MemSource, SureSink, SureSource};
 use std::test::Fail;
 
@@ -59,12 +60,7 @@ fn each_scene_gets_its_picture_or_its_line(rt: HostRuntime) -> Result<(), Fail> 
             FOUR,
             "",
         ),
-        (
-            "icet-scene 1\nmode depth\nranks 2\ntile 0 0 1 1 0\npoint 1 0 0 7 2 2 2 255\npoint 0 0 0 7 1 1 1 255\nend\n",
-            Status::Ok,
-            TIE,
-            "",
-        ),
+        (TWO_RANKS, Status::Ok, TIE, ""),
         (
             "icet-scene 1\nmode depth\nranks 3\ntile 5 5 2 1 2\nend\n",
             Status::Ok,
@@ -154,6 +150,66 @@ fn each_scene_gets_its_picture_or_its_line(rt: HostRuntime) -> Result<(), Fail> 
     Ok(())
 }
 
+const TWO_RANKS: &str =
+    "icet-scene 1\nmode depth\nranks 2\ntile 0 0 1 1 0\npoint 1 0 0 7 2 2 2 255\npoint 0 0 0 7 1 1 1 255\nend\n";
+
+#[test]
+fn each_command_writes_its_text(rt: HostRuntime) -> Result<(), Fail> {
+    let alloc = rt.alloc();
+    for (words, written) in [
+        (
+            [
+                "composite",
+                "--strategy",
+                "direct",
+                "--cap",
+                "1",
+                "--schedule",
+                "1",
+            ]
+            .as_slice(),
+            TIE,
+        ),
+        (
+            &[
+                "replay",
+                "--strategy",
+                "direct",
+                "--cap",
+                "1",
+                "--schedule",
+                "0,1,0,1,0",
+            ],
+            b"0 stalled\n1 moved\n0 moved\n1 done\n0 done\nfinished\n",
+        ),
+        (
+            &[
+                "replay",
+                "--strategy",
+                "direct",
+                "--cap",
+                "1",
+                "--schedule",
+                "0",
+            ],
+            b"0 stalled\nunfinished 0\n",
+        ),
+        (
+            &["replay", "--strategy", "direct", "--schedule", "2,1"],
+            b"2 absent\n1 moved\nunfinished 0\n",
+        ),
+        (&["replay", "--strategy", "direct"], b"unfinished 0\n"),
+    ] {
+        let bytes = Vec::from_slice(alloc, TWO_RANKS.as_bytes())?;
+        let mut source = MemSource::new(bytes, 7, Vec::new(alloc));
+        let (status, sink, notes) = outcome(&rt, alloc, words, &mut source, 1024, Vec::new(alloc))?;
+        assert_eq!(rt; status, Status::Ok, "{words:?}");
+        assert_eq!(rt; sink.bytes(), written, "{words:?}");
+        assert!(rt; notes.bytes().is_empty(), "{words:?}");
+    }
+    Ok(())
+}
+
 #[test]
 fn a_fault_in_mid_stream_is_answered(rt: HostRuntime) -> Result<(), Fail> {
     let alloc = rt.alloc();
@@ -228,5 +284,110 @@ fn sure_ends_give_ok(rt: HostRuntime) -> Result<(), Fail> {
         &PlainGate,
     );
     assert_eq!(rt; status, Status::Ok);
+    Ok(())
+}
+
+#[test]
+fn words_are_their_command(rt: HostRuntime) -> Result<(), Fail> {
+    let alloc = rt.alloc();
+    for (words, job, cap, schedule) in [
+        (
+            ["composite", "--strategy", "direct"].as_slice(),
+            Job::Composite,
+            4,
+            [].as_slice(),
+        ),
+        (
+            &["composite", "--strategy", "direct", "--cap", "64"],
+            Job::Composite,
+            64,
+            &[],
+        ),
+        (
+            &["replay", "--strategy", "direct", "--schedule", "7"],
+            Job::Replay,
+            4,
+            &[7],
+        ),
+        (
+            &[
+                "replay",
+                "--strategy",
+                "direct",
+                "--cap",
+                "1",
+                "--schedule",
+                "0,63,0",
+            ],
+            Job::Replay,
+            1,
+            &[0, 63, 0],
+        ),
+    ] {
+        let command = read_words(alloc, words)?.ok_or("no command")?;
+        assert_eq!(rt; command.job(), job, "{words:?}");
+        assert_eq!(rt; command.cap(), cap, "{words:?}");
+        assert_eq!(rt; command.schedule(), schedule, "{words:?}");
+    }
+    Ok(())
+}
+
+#[test]
+fn other_words_are_no_command(rt: HostRuntime) -> Result<(), Fail> {
+    let alloc = rt.alloc();
+    for words in [
+        [].as_slice(),
+        &["composite"],
+        &["draw", "--strategy", "direct"],
+        &["composite", "--strategy", "reduce"],
+        &["composite", "--strategy", "direct", "--cap"],
+        &["composite", "--strategy", "direct", "--cap", "0"],
+        &["composite", "--strategy", "direct", "--cap", "65"],
+        &["composite", "--strategy", "direct", "--cap", "01"],
+        &["replay", "--strategy", "direct", "--schedule", ""],
+        &["replay", "--strategy", "direct", "--schedule", "0,"],
+        &["replay", "--strategy", "direct", "--schedule", "0,64"],
+        &["replay", "--strategy", "direct", "--schedule", "0, 1"],
+        &["replay", "--strategy", "direct", "--schedule", "7", "8"],
+        &[
+            "replay",
+            "--strategy",
+            "direct",
+            "--schedule",
+            "7",
+            "--cap",
+            "1",
+        ],
+        &["replay", "--strategy", "direct", "--cap", "1", "--cap", "1"],
+    ] {
+        assert!(rt; read_words(alloc, words)?.is_none(), "{words:?}");
+    }
+    Ok(())
+}
+
+/// How many entries are read of a schedule of so many.
+fn entries_read(alloc: Global, count: u32) -> Result<Option<usize>, Fail> {
+    let mut schedule = String::new(alloc);
+    schedule.push_str("5")?;
+    for _ in 1..count {
+        schedule.push_str(",5")?;
+    }
+    let words = [
+        "replay",
+        "--strategy",
+        "direct",
+        "--schedule",
+        schedule.as_str(),
+    ];
+    match read_words(alloc, &words)? {
+        None => Ok(None),
+        Some(command) => Ok(Some(command.schedule().len())),
+    }
+}
+
+#[test]
+fn a_schedule_has_at_most_65536_entries(rt: HostRuntime) -> Result<(), Fail> {
+    assert_eq!(rt; entries_read(rt.alloc(), 65_536)?, Some(65_536));
+    assert_eq!(rt; entries_read(rt.alloc(), 65_537)?, None);
     Ok(())
 }

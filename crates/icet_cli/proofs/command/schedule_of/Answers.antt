@@ -1,0 +1,8 @@
+use Rattle.std.proofs.Common.{sym, arith}
+use Rattle.icet_cli.proofs.Entries.{schedule_long}
+use Rattle.icet_cli.proofs.command.schedule_of.Goals as goal
+
+pub returns-then-len-eq-MAX_SCHEDULE : goal.returns-then-len-eq-MAX_SCHEDULE
+returns-then-len-eq-MAX_SCHEDULE c =
+    let h = rw c.in-Some.is at c.loop-rest.invariant in
+    sym (schedule_long c.args.text.now c.loop-rest.ranks.items c.in-Some.entries.now (omega arith) h)

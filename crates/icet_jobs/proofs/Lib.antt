@@ -1,0 +1,9 @@
+pub mod DrivenNets
+pub mod LowestLeft
+pub mod PictureTexts
+pub mod PlanExchanges
+pub mod ReplayLines
+pub mod SceneImages
+pub mod SceneNets
+pub mod ScenePictures
+pub mod SceneTraffic

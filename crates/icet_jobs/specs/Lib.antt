@@ -1,0 +1,4 @@
+pub mod Composites
+pub mod Nets
+pub mod Replays
+pub mod Texts

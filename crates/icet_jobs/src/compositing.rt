@@ -1,0 +1,70 @@
+ghost use Rattle.std.specs.Prelude.{◌≡◌, ◌≤◌, ◌++◌, IfOk, OnOk, OnErr};
+ghost use Rattle.icet_jobs.specs.Composites.{composite_traffic, plain_pictures};
+
+use crate::imaging::images_of;
+use crate::planning::plan_of;
+use crate::running::run_net;
+use icet_base::{Gate, NoMemory};
+use icet_multi::Settings;
+use icet_net::Pictures;
+use icet_ring::Wires;
+use icet_scene::scene::Scene;
+use std::alloc::Global;
+use std::thread::Threads;
+
+/// How a scene is composited: the plan's settings, how many messages may wait on a pair of ranks, how
+/// many workers step the ranks, how many exchanges a rank may make in a turn, and the strands.
+#[derive(Clone, Copy, Debug, PartialEq, Eq)]
+pub struct Way {
+    pub settings: Settings,
+    pub cap: u32,
+    pub workers: u32,
+    pub burst: u32,
+    pub strands: u32,
+}
+
+/// What came of compositing a scene: the pictures, one per tile.
+#[derive(Drop)]
+pub struct Outcome {
+    pub pictures: Pictures,
+}
+
+/// Composites a scene: makes the plan, draws each rank's images, moves them through a net over the
+/// wires, and hands out the plain composite of each tile. The wires' log grows by the plan's traffic.
+/// Conditions: capacity, workers and burst are at least 1, and there is one strand.
+///
+/// # Errors
+///
+/// `NoMemory`; the wires' log is as before.
+pub fn composite<W: Wires, G: Gate, R: Threads + Sync>(
+    rt: &R,
+    alloc: Global,
+    scene: &Scene,
+    way: &Way,
+    wires: &mut W,
+    gate: &G,
+) -> Result<Outcome, NoMemory>
+    requires cap { 1 ≤ way.now.cap }
+    requires workers { 1 ≤ way.now.workers }
+    requires burst { 1 ≤ way.now.burst }
+    requires strands { way.now.strands ≡ 1 }
+    ensures pictures { IfOk result (λ outcome. outcome.pictures ≡ plain_pictures scene.now) }
+    ensures log { OnOk result (W.log wires.new ≡ W.log wires.old ++ composite_traffic way.now.settings.strategy scene.now) }
+    ensures kept { OnErr result (W.log wires.new ≡ W.log wires.old) }
+{
+    let _ranks = scene.ranks();
+    let plan = plan_of(alloc, scene, &way.settings)?;
+    let images = images_of(alloc, scene)?;
+    let pictures = run_net(
+        rt,
+        alloc,
+        plan,
+        scene.mode,
+        &scene.layout,
+        images,
+        way,
+        wires,
+        gate,
+    )?;
+    Ok(Outcome { pictures })
+}
