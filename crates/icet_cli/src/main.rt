@@ -1,6 +1,10 @@
 //! The program `icet`: composites what parallel renderers drew apart.
 #![tactic(auto)]
 
+ghost use Rattle.std.specs.Prelude.{◌≡◌, ◌⊎◌, IfOk, codes, map, string_bytes};
+ghost use Rattle.icet_cli.specs.Notes.{HasNoted};
+ghost use Rattle.icet_cli.specs.Outcome.{RunsTo};
+
 pub mod command;
 pub mod doing;
 pub mod notes;
@@ -62,7 +66,10 @@ fn arguments(alloc: Global, args: io::Result<env::Args>) -> Result<Vec<String>, 
 }
 
 /// Words that aren't Unicode are refused words; where they can't be held, nothing is written.
-fn refuse<N: Sink>(refusal: Refusal, notes: &mut N) -> Status {
+fn refuse<N: Sink>(refusal: Refusal, notes: &mut N) -> Status
+    ensures refused { refusal ≡ Refusal.NotUnicode → (result ≡ Status.WordsRefused) × HasNoted (N.written notes.old) (N.written notes.new) (N.faults notes.old) (N.faults notes.new) (codes "icet: words refused\n") }
+    ensures wanting { refusal ≡ Refusal.NoMemory → (result ≡ Status.NoMemory) × (notes.new ≡ notes.old) }
+{
     match refusal {
         Refusal::NotUnicode => {
             note(notes, b"icet: words refused\n");
@@ -72,6 +79,7 @@ fn refuse<N: Sink>(refusal: Refusal, notes: &mut N) -> Status {
     }
 }
 
+/// Runs the command that these arguments are. Where they can't be held, nothing is done.
 fn run_on<S: Source, K: Sink, N: Sink, W: Wires, R: Threads + Sync>(
     rt: &R,
     alloc: Global,
@@ -80,7 +88,9 @@ fn run_on<S: Source, K: Sink, N: Sink, W: Wires, R: Threads + Sync>(
     sink: &mut K,
     notes: &mut N,
     wires: &mut W,
-) -> Status {
+) -> Status
+    ensures { RunsTo (map (λ argument. string_bytes argument) arguments.now) (record { left = S.left source.old; read_faults = S.faults source.old; written = K.written sink.old; write_faults = K.faults sink.old; noted = N.written notes.old; note_faults = N.faults notes.old; log = W.log wires.old }) (record { left = S.left source.new; read_faults = S.faults source.new; written = K.written sink.new; write_faults = K.faults sink.new; noted = N.written notes.new; note_faults = N.faults notes.new; log = W.log wires.new }) result ⊎ ((result ≡ Status.NoMemory) × (source.new ≡ source.old) × (sink.new ≡ sink.old) × (notes.new ≡ notes.old) × (wires.new ≡ wires.old)) }
+{
     match texts_of(alloc, arguments) {
         Ok(words) => run(
             rt,
@@ -96,7 +106,10 @@ fn run_on<S: Source, K: Sink, N: Sink, W: Wires, R: Threads + Sync>(
     }
 }
 
-fn texts_of<'a>(alloc: Global, arguments: &'a [String]) -> Result<Vec<&'a str>, AllocError> {
+/// The arguments as texts.
+fn texts_of<'a>(alloc: Global, arguments: &'a [String]) -> Result<Vec<&'a str>, AllocError>
+    ensures { IfOk result (λ words. map (λ word. word.now) words.items ≡ map (λ argument. string_bytes argument) arguments.now) }
+{
     let mut words = Vec::new(alloc);
     for argument in arguments {
         words.push(argument.as_str())?;

@@ -1,6 +1,4 @@
-ghost use Rattle.std.specs.Prelude.{◌≡◌, ◌∷◌, [], IfOk, All, map};
-ghost use Rattle.icet_model.specs.Tiles.{IsTileArea};
-ghost use Rattle.icet_tiles.specs.Layouts.{tile_view};
+ghost use Rattle.std.specs.Prelude.{◌≡◌, IfOk, All, map};
 ghost use Rattle.icet_scene.specs.Lines.{placed_of};
 ghost use Rattle.icet_scene.specs.Scenes.{IsLawfulScene};
 ghost use Rattle.icet_model.specs.Jobs.{shapes_of};
@@ -9,7 +7,7 @@ ghost use Rattle.icet_raster.specs.Shapes.{drawing_of, IsInRange};
 use icet_base::{Mode, NoMemory, Rank};
 use icet_pixel::Fragment;
 use icet_raster::Shape;
-use icet_tiles::{Layout, Tile};
+use icet_tiles::Layout;
 use sqlite_items::Items;
 use std::alloc::Global;
 use std::marker::Model;
@@ -54,14 +52,6 @@ impl Scene {
         ensures in_range { IfOk result (λ shapes. All IsInRange shapes.items) }
     {
         own_shapes(alloc, self.shapes.as_slice(), rank)
-    }
-
-    /// The tile. Condition: none; every scene has one.
-    pub fn tile(&self) -> Tile
-        ensures tile { self.now.tiles ≡ tile_view result ∷ [] }
-        ensures area { IsTileArea result.area }
-    {
-        self.layout.tile(0)
     }
 }
 
