@@ -16,7 +16,7 @@ import tempfile
 import time
 
 HERE = os.path.dirname(os.path.dirname(os.path.abspath(__file__)))
-PROGRAM = os.path.join(HERE, "crates", "icet_cli", "out", "icet_cli")
+PROGRAM = os.path.join(HERE, "crates", "icet", "out", "icet")
 WORDS = [PROGRAM, "composite", "--strategy", "direct"]
 
 

@@ -11,7 +11,7 @@ import sys
 import tempfile
 
 HERE = os.path.dirname(os.path.dirname(os.path.abspath(__file__)))
-PROGRAM = os.path.join(HERE, "crates", "icet_cli", "out", "icet_cli")
+PROGRAM = os.path.join(HERE, "crates", "icet", "out", "icet")
 SCENE = b"""icet-scene 1
 mode depth
 ranks 2

@@ -18,6 +18,3 @@ pub use pen::Pen;
 pub use sink::Sink;
 pub use source::Source;
 pub use std_io::{StdSink, StdSource};
-
-#[cfg(test)]
-mod tests;

@@ -9,6 +9,7 @@ use Rattle.icet_model.specs.Pixel.{Pixel}
 use Rattle.icet_model.specs.Run.{Piece}
 use Rattle.icet_model.specs.Plan.{has_place}
 use Rattle.icet_collect.specs.Collect.{CanvasView, blank_canvas, IsFree, IsFull, Places, Shows, HasWanted}
+use Rattle.icet_model.proofs.Lists.{any_last}
 
 blank_place : (n i : ℕ) → get_or (replicate n false) i false ≡ false
 blank_place n i = ⊎_elim (λ (h : i < n). get_or-replicate n i false false h) (λ (h : n ≤ i). get_or_past (replicate n false) i false (rw (length-replicate n false) h)) (cases_lt i n)
@@ -18,15 +19,6 @@ shows_blank wanted tile w h strands = record {
   placed = λ i. blank_place (w * h) i;
   pixels = λ i e. absurd (both_ways (get_or (replicate (w * h) false) i false) (blank_place (w * h) i) e);
 }
-
-swapped : (x y z : Bool) → (x || (y || z)) ≡ (y || (x || z))
-swapped true true z = refl
-swapped true false z = refl
-swapped false y z = refl
-
-any_last : (p : Piece (List Pixel) → Bool) (ps : List (Piece (List Pixel))) (q : Piece (List Pixel)) → list_any p (ps ++ q ∷ []) ≡ (p q || list_any p ps)
-any_last p [] q = refl
-any_last p (x ∷ ps) q = ap (λ b. p x || b) (any_last p ps q) ∙ swapped (p x) (p q) (list_any p ps)
 
 -- a position of the piece lies in its range
 in_range : (t i : ℕ) (p : Piece (List Pixel)) → has_place t i p ≡ true → (p.lo ≤ i) × (i < p.hi)

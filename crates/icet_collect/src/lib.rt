@@ -4,6 +4,3 @@
 pub mod canvas;
 
 pub use canvas::Canvas;
-
-#[cfg(test)]
-mod tests;

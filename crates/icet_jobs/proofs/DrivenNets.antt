@@ -9,6 +9,7 @@ use Rattle.icet_model.specs.Wires.{Pairing}
 use Rattle.icet_rank.specs.Machine.{MachineView, content_at}
 use Rattle.icet_net.specs.Ranks.{machine_at, mode_of, images_of, EachRank, ComesOn, AreOpenedWith}
 use Rattle.icet_jobs.specs.Nets.{piece_images}
+use Rattle.icet_model.proofs.Lists.{any_default}
 
 -- a slice of the whole list is written back whole
 pub written_back : {X : Type 0} (n : ℕ) (new old : List X) → n ≡ length old → length new ≡ length old → take n (new ++ drop (length new) old) ≡ new
@@ -17,11 +18,6 @@ written_back {X = X} n new old e f = ap (λ k. take k (new ++ drop (length new) 
     go : (xs ys : List X) → take (length xs) (xs ++ ys) ≡ xs
     go [] ys = refl
     go (x ∷ xs) ys = ap (λ zs. x ∷ zs) (go xs ys)
-
-or_first : {X : Type 0} (xs : List X) (r : ℕ) (d e : X) → r < length xs → get_or xs r d ≡ get_or xs r e
-or_first [] r d e l = absurd (omega arith)
-or_first (x ∷ xs) zero d e l = refl
-or_first (x ∷ xs) (suc r) d e l = or_first xs r d e (omega arith)
 
 or_beyond : {X : Type 0} (xs : List X) (r : ℕ) (d : X) → length xs ≤ r → get_or xs r d ≡ d
 or_beyond [] r d l = refl
@@ -37,9 +33,9 @@ module _ {I O : Type 0} (in_pairing : I → Pairing) (out_pairing : O → Pairin
 
   same_at : 1 ≤ length images → (r t : ℕ) → images_of news r t ≡ piece_images images r t
   same_at some r t = elim (cases_lt r (length olds)) [
-    | inl l ↦ (ap (λ m. content_at m.images t) (or_first news r (machine_at news 0) _ (omega (arith, l, on.count)))
+    | inl l ↦ (ap (λ m. content_at m.images t) (any_default news r (machine_at news 0) _ (omega (arith, l, on.count)))
         ∙ ap (λ xs. content_at xs t) (images_at r l)
-        ∙ ap (λ xs. content_at xs t) (or_first images r [] (get_or images 0 []) (omega (arith, l, opened.count))))
+        ∙ ap (λ xs. content_at xs t) (any_default images r [] (get_or images 0 []) (omega (arith, l, opened.count))))
     | inr l ↦ (ap (λ m. content_at m.images t) (or_beyond news r (machine_at news 0) (omega (arith, l, on.count)))
         ∙ ap (λ xs. content_at xs t) (images_at 0 (omega (arith, some, opened.count)))
         ∙ ap (λ xs. content_at xs t) (sym (or_beyond images r (get_or images 0 []) (omega (arith, l, opened.count)))))

@@ -16,6 +16,7 @@ use Rattle.icet_rank.specs.Machine.{sizes_of, content_at}
 use Rattle.icet_net.specs.Ranks.{AreWholeImages}
 use Rattle.icet_jobs.specs.Nets.{piece_images}
 use Rattle.icet_jobs.specs.Composites.{image_at, images_of, whole_piece, pieces_from, rank_image, rank_images}
+use Rattle.icet_model.proofs.Lists.{made_more as one_made_more}
 
 -- an entry of a list that is made of a range
 pub made_at : {X : Type 0} (f : ℕ → X) (first n r : ℕ) (d : X) → r < n → get_or (map f (range_with_len first n)) r d ≡ f (first + r)
@@ -71,12 +72,8 @@ pub nothing_drawn : (mode : Mode) (shapes : List Drawing) (area : Area) → shap
 nothing_drawn mode shapes area e = ap (λ s. full_image mode s area) e ∙ blank_outside mode [] area refl
 
 -- one entry more of a list that is made of a range
-made_next : {X : Type 0} (f : ℕ → X) (first n : ℕ) → map f (range_with_len first (suc n)) ≡ map f (range_with_len first n) ++ f (first + n) ∷ []
-made_next f first zero = ap (λ k. f k ∷ []) (let e : first ≡ first + 0 = omega arith in e)
-made_next f first (suc n) = ap (λ ys. f first ∷ ys) (made_next f (first + 1) n ∙ ap (λ k. map f (range_with_len (first + 1) n) ++ f k ∷ []) (let e : first + 1 + n ≡ first + suc n = omega arith in e))
-
 pub made_more : {X : Type 0} (f : ℕ → X) (n : ℕ) → map f (range_with_len 0 (n + 1)) ≡ map f (range_with_len 0 n) ++ f n ∷ []
-made_more f n = rw add-one (made_next f 0 n ∙ ap (λ k. map f (range_with_len 0 n) ++ f k ∷ []) (let z : 0 + n ≡ n = omega arith in z))
+made_more = one_made_more
 
 -- one tile more
 pieces_next : (first : ℕ) (mode : Mode) (shapes : List Drawing) (tiles : List AreaTile) (t : ℕ) (tile : AreaTile) → slice_get tiles t ≡ Some tile → pieces_from first mode shapes (take (suc t) tiles) ≡ pieces_from first mode shapes (take t tiles) ++ whole_piece mode shapes tile.area (first + t) ∷ []

@@ -23,17 +23,15 @@ use Rattle.icet_net.specs.Ranks.{AreWholeImages}
 use Rattle.icet_scene.specs.Scenes.{IsLawfulScene}
 use Rattle.icet_jobs.specs.Composites.{boxes_of, scene_tiles, rank_image, rank_images}
 use Rattle.icet_jobs.proofs.SceneImages.{whole_images}
+use Rattle.icet_model.proofs.Lists.{no_pairs}
 
 -- the numbers from first on, each once
 all_in : (P : ℕ → Type 0) (first n : ℕ) → ((r : ℕ) → first ≤ r → r < first + n → P r) → All P (range_with_len first n)
 all_in P first zero h = All-nil P
 all_in P first (suc n) h = All-cons P first (range_with_len (first + 1) n) (h first (omega arith) (omega arith)) (all_in P (first + 1) n (λ r a b. h r (omega (arith, a)) (omega (arith, b))))
 
-none : {X : Type 0} (R : X → X → Type 0) → AllPairs R []
-none R i j d l m = absurd (omega arith)
-
 all_differ : (first n : ℕ) → AllPairs (λ one other. one ≢ other) (range_with_len first n)
-all_differ first zero = none (λ one other. one ≢ other)
+all_differ first zero = no_pairs (λ one other. one ≢ other)
 all_differ first (suc n) = AllPairs-cons (λ one other. one ≢ other) first (range_with_len (first + 1) n) (all_in (λ r. first ≢ r) (first + 1) n (λ r a b e. absurd (omega (arith, a, e)))) (all_differ (first + 1) n)
 
 pub each_once : (n : ℕ) (order : List ℕ) → order ≡ range_with_len 0 n → HasEachOnce n order

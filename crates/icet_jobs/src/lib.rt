@@ -12,6 +12,3 @@ pub use compositing::{Outcome, Way, composite};
 pub use planning::plan_of;
 pub use replaying::{JobFault, write_replay};
 pub use writing::write_pictures;
-
-#[cfg(test)]
-mod tests;

@@ -5,7 +5,7 @@ ghost use Rattle.icet_model.specs.Faults.{HasCause, Rose};
 ghost use Rattle.icet_model.specs.Replay.{last_line, lowest_left, replay_from, replay_text, try_word};
 ghost use Rattle.icet_base.specs.PenText.{text_of, Puts};
 ghost use Rattle.icet_plan.specs.Keeps.{all_of};
-ghost use Rattle.icet_jobs.specs.Replays.{IsWithin, tried, try_of_rank};
+ghost use Rattle.icet_jobs.specs.Replays.{tried, try_of_rank};
 
 use icet_base::{NoMemory, Pen, Rank, Sink, WriteFault};
 use icet_plan::{Advance, Core, Plan};
@@ -75,7 +75,6 @@ fn write_tries<K: Sink>(
     core: &mut Core<'_>,
     schedule: &[u32],
 ) -> Result<(), WriteFault>
-    requires { IsWithin core.old }
     ensures puts { Puts result (K.written sink.old) (K.written sink.new) (K.written sink.old) (K.written sink.new) (replay_from (all_of core.old) core.old.cap core.old.done schedule.now) }
     ensures cause { HasCause (K.faults sink.old) (K.faults sink.new) result }
 {
@@ -90,8 +89,7 @@ fn put_tries<K: Sink>(
     core: &mut Core<'_>,
     schedule: &[u32],
 ) -> Result<(), WriteFault>
-    requires ready { pen.old.failed ≡ false }
-    requires within { IsWithin core.old }
+    requires { pen.old.failed ≡ false }
     ensures puts { Puts result (K.written pen.old.sink.now) (K.written pen.new.sink.now) (text_of (K.written pen.old.sink.now) pen.old.waiting.items) (text_of (K.written pen.new.sink.now) pen.new.waiting.items) (replay_from (all_of core.old) core.old.cap core.old.done schedule.now) }
     ensures cause { HasCause (K.faults pen.old.sink.now) (K.faults pen.new.sink.now) result }
     ensures failed { pen.new.failed ≡ is_err result }
@@ -105,14 +103,12 @@ fn put_tries<K: Sink>(
 
 /// Has the rank try to go on, and puts the line on what came of it.
 fn put_try<K: Sink>(pen: &mut Pen<'_, K>, core: &mut Core<'_>, rank: u32) -> Result<(), WriteFault>
-    requires ready { pen.old.failed ≡ false }
-    requires within { IsWithin core.old }
+    requires { pen.old.failed ≡ false }
     ensures puts { Puts result (K.written pen.old.sink.now) (K.written pen.new.sink.now) (text_of (K.written pen.old.sink.now) pen.old.waiting.items) (text_of (K.written pen.new.sink.now) pen.new.waiting.items) (decimal rank ++ try_word (try_of_rank core.old rank)) }
     ensures cause { HasCause (K.faults pen.old.sink.now) (K.faults pen.new.sink.now) result }
     ensures failed { pen.new.failed ≡ is_err result }
     ensures same_reference { pen.new.sink.ghost_name ≡ pen.old.sink.ghost_name }
     ensures core { core.new ≡ tried core.old rank }
-    ensures within { IsWithin core.new }
 {
     let word = go_on(core, rank);
     pen.put_number_between(b"", u64::from(rank), word)
@@ -120,10 +116,8 @@ fn put_try<K: Sink>(pen: &mut Pen<'_, K>, core: &mut Core<'_>, rank: u32) -> Res
 
 /// Has the rank try to go on, and answers the rest of the line on what came of it.
 fn go_on(core: &mut Core<'_>, rank: u32) -> &'static [u8]
-    requires { IsWithin core.old }
     ensures word { result.now ≡ try_word (try_of_rank core.old rank) }
     ensures core { core.new ≡ tried core.old rank }
-    ensures within { IsWithin core.new }
 {
     if rank >= core.ranks() {
         return b" absent\n";

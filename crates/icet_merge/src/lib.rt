@@ -4,6 +4,3 @@
 pub mod joining;
 
 pub use joining::merge;
-
-#[cfg(test)]
-mod tests;

@@ -25,8 +25,8 @@ try_of all cap done r None = Done
 try_of all cap done r (Some e) = cond (allows all cap done r e.kind e.peer) Moved Stalled
 
 -- a rank of the plan makes its next exchange, is stalled, or has none left
-abbrev pub try : List (List Exchange) → ℕ → List ℕ → ℕ → Try
-try all cap done r = cond (nat_lt r (length all)) (try_of all cap done r (due all done r)) Absent
+abbrev pub outcome : List (List Exchange) → ℕ → List ℕ → ℕ → Try
+outcome all cap done r = cond (nat_lt r (length all)) (try_of all cap done r (due all done r)) Absent
 
 -- only an exchange that is made changes the counters
 abbrev pub after_try : List ℕ → ℕ → Try → List ℕ
@@ -52,7 +52,7 @@ last_line (Some r) = (codes "unfinished " ++ decimal r) ++ codes "\n"
 -- a line for each number of the schedule, and one for where the ranks stand then
 abbrev pub replay_from : List (List Exchange) → ℕ → List ℕ → List ℕ → List ℕ
 replay_from all cap done [] = last_line (lowest_left all done)
-replay_from all cap done (r ∷ schedule) = (decimal r ++ try_word (try all cap done r)) ++ replay_from all cap (after_try done r (try all cap done r)) schedule
+replay_from all cap done (r ∷ schedule) = (decimal r ++ try_word (outcome all cap done r)) ++ replay_from all cap (after_try done r (outcome all cap done r)) schedule
 
 -- the replay of a plan from its start, where each ring holds `cap` messages
 abbrev pub replay_text : PlanView → ℕ → List ℕ → List ℕ

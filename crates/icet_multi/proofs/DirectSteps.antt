@@ -5,6 +5,7 @@ use Rattle.std.specs.Prelude.{◌==◌}
 use Rattle.std.proofs.lemmas.List.{append_assoc, append-nil}
 use Rattle.icet_model.specs.declared.exchange.Op.TheVariants.{Load, Join, Swap, Keep}
 use Rattle.icet_multi.specs.Direct.{TileView, hands_in, send_of, fetch, joins, folds, gift, gifts, showing, showings, direct_program}
+use Rattle.icet_model.proofs.Lists.{made_more}
 
 joins_next : (t : ℕ) (x : TileView) (cs : List ℕ) (i d : ℕ) → i < length cs → joins t x (take (suc i) cs) ≡ joins t x (take i cs) ++ fetch t x 1 (get_or cs i d) ∷ Join 0 1 0 ∷ []
 joins_next t x [] i d l = absurd (omega arith)
@@ -45,13 +46,9 @@ showings_next s (x ∷ xs) r (suc k) d l =
 pub showings_more : (xs : List TileView) (r k : ℕ) (d : TileView) → k < length xs → showings 0 (take (k + 1) xs) r ≡ showings 0 (take k xs) r ++ showing k (get_or xs k d) r
 showings_more xs r k d l = rw add-one (showings_next 0 xs r k d l ∙ ap (λ t. showings 0 (take k xs) r ++ showing t (get_or xs k d) r) (let z : 0 + k ≡ k = omega arith in z))
 
-listed_next : {V : Type 0} (f : ℕ → V) (first n : ℕ) → map f (range_with_len first (suc n)) ≡ map f (range_with_len first n) ++ f (first + n) ∷ []
-listed_next f first zero = ap (λ n. f n ∷ []) (let z : first ≡ first + 0 = omega arith in z)
-listed_next f first (suc n) = ap (λ xs. f first ∷ xs) (listed_next f (first + 1) n ∙ ap (λ k. map f (range_with_len (first + 1) n) ++ f k ∷ []) (let z : first + 1 + n ≡ first + suc n = omega arith in z))
-
 -- one rank more
 pub listed_more : {V : Type 0} (f : ℕ → V) (n : ℕ) → map f (range_with_len 0 (n + 1)) ≡ map f (range_with_len 0 n) ++ f n ∷ []
-listed_more f n = rw add-one (listed_next f 0 n ∙ ap (λ k. map f (range_with_len 0 n) ++ f k ∷ []) (let z : 0 + n ≡ n = omega arith in z))
+listed_more = made_more
 
 -- how long they are
 gift_length : (t : ℕ) (x : TileView) (r : ℕ) → length (gift t x r) ≤ 2

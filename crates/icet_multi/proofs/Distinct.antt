@@ -4,19 +4,16 @@ use Rattle.std.specs.Prelude.{◌||◌, ◌≢◌, AllPairs}
 use Rattle.std.specs.List.{AllByRecursion, All}
 use Rattle.std.proofs.lemmas.List.Elements.{All-head, All-tail}
 use Rattle.icet_multi.specs.Direct.{has}
+use Rattle.icet_model.proofs.Lists.{all_in_turn}
 
 -- the relation holds of each element and all later ones
 abbrev pub Apart : {X : Type 0} → (X → X → Type 0) → List X → Type 0
 Apart R [] = Unit {0}
 Apart R (x ∷ xs) = AllByRecursion (R x) xs × Apart R xs
 
-by_recursion : {X : Type 0} (P : X → Type 0) (xs : List X) → All P xs → AllByRecursion P xs
-by_recursion P [] h = tt
-by_recursion P (x ∷ xs) h = (All-head P x xs h, by_recursion P xs (All-tail P x xs h))
-
 pub apart_from_pairs : {X : Type 0} (R : X → X → Type 0) (xs : List X) → AllPairs R xs → Apart R xs
 apart_from_pairs R [] h = tt
-apart_from_pairs R (x ∷ xs) h = (by_recursion (R x) xs (λ i d l. h 0 (suc i) d (omega arith) (omega arith)), apart_from_pairs R xs (λ i j d l m. h (suc i) (suc j) d (omega arith) (omega arith)))
+apart_from_pairs R (x ∷ xs) h = (all_in_turn (R x) xs (λ i d l. h 0 (suc i) d (omega arith) (omega arith)), apart_from_pairs R xs (λ i j d l m. h (suc i) (suc j) d (omega arith) (omega arith)))
 
 -- a number that differs from all isn't one of them
 pub has_none : (r : ℕ) (cs : List ℕ) → AllByRecursion (λ c. r ≢ c) cs → has r cs ≡ false

@@ -8,6 +8,7 @@ use Rattle.icet_model.specs.Tiles.{TileView as AreaTile, IsLayout}
 use Rattle.icet_tiles.specs.Contributors.{HasEachOnce}
 use Rattle.icet_multi.specs.Direct.{TileView, IsTile, AreTiles}
 use Rattle.icet_multi.specs.Strategies.{IsTileAt, KeepsOrder, tile_ranks}
+use Rattle.icet_model.proofs.Lists.{no_pairs, all_in_turn}
 
 -- one tile more
 pub tiles_more : (layout : List AreaTile) (who : List (List ℕ)) (t : ℕ) (x : TileView) → IsTileAt layout who t x → tile_ranks (take (t + 1) layout) who ≡ tile_ranks (take t layout) who ++ x ∷ []
@@ -27,13 +28,9 @@ tile_count [] who e = refl
 tile_count (tile ∷ layout) [] e = absurd (omega (arith, e))
 tile_count (tile ∷ layout) (ranks ∷ who) e = ap suc (tile_count layout who (omega (arith, e)))
 
-all_at : {X : Type 0} (P : X → Type 0) (xs : List X) → All P xs → AllByRecursion P xs
-all_at P [] h = tt
-all_at P (x ∷ xs) h = (All-head P x xs h, all_at P xs (All-tail P x xs h))
-
 -- a list that keeps an order of ranks names ranks, each at most once
 kept_below : (ranks : ℕ) (order list : List ℕ) → HasEachOnce ranks order → KeepsOrder order list → AllByRecursion (λ c. c < ranks) list
-kept_below ranks order list once kept = all_at (λ c. c < ranks) list (subst (All (λ c. c < ranks)) (sym kept.is) (All-filter kept.keeps (λ c. c < ranks) order once.below))
+kept_below ranks order list once kept = all_in_turn (λ c. c < ranks) list (subst (All (λ c. c < ranks)) (sym kept.is) (All-filter kept.keeps (λ c. c < ranks) order once.below))
 
 kept_apart : (ranks : ℕ) (order list : List ℕ) → HasEachOnce ranks order → KeepsOrder order list → AllPairs (λ a b. a ≢ b) list
 kept_apart ranks order list once kept = subst (AllPairs (λ a b. a ≢ b)) (sym kept.is) (AllPairs-filter (λ a b. a ≢ b) kept.keeps order once.distinct)
@@ -53,12 +50,9 @@ all_display P [] who h = All-nil (λ x. P x.display)
 all_display P (tile ∷ layout) [] h = All-nil (λ x. P x.display)
 all_display P (tile ∷ layout) (list ∷ who) h = All-cons (λ x. P x.display) _ (tile_ranks layout who) (All-head (λ t. P t.display) tile layout h) (all_display P layout who (All-tail (λ t. P t.display) tile layout h))
 
-none : {X : Type 0} (R : X → X → Type 0) → AllPairs R []
-none R i j d l m = absurd (omega arith)
-
 displays_differ : (layout : List AreaTile) (who : List (List ℕ)) → AllPairs (λ one other. one.display ≢ other.display) layout → AllPairs (λ x y. x.display ≢ y.display) (tile_ranks layout who)
-displays_differ [] who h = none (λ x y. x.display ≢ y.display)
-displays_differ (tile ∷ layout) [] h = none (λ x y. x.display ≢ y.display)
+displays_differ [] who h = no_pairs (λ x y. x.display ≢ y.display)
+displays_differ (tile ∷ layout) [] h = no_pairs (λ x y. x.display ≢ y.display)
 displays_differ (tile ∷ layout) (list ∷ who) h =
     AllPairs-cons (λ x y. x.display ≢ y.display) _ (tile_ranks layout who)
     (all_display (λ d. tile.display ≢ d) layout who (λ i d l. h 0 (suc i) d (omega arith) (omega arith)))

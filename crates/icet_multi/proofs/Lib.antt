@@ -8,5 +8,4 @@ pub mod DirectRuns
 pub mod Fewness
 pub mod Layouts
 pub mod OnTiles
-pub mod OneTile
 pub mod Picked

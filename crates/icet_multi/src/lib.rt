@@ -10,6 +10,3 @@ pub mod tile;
 pub use planning::plan;
 pub use settings::{Settings, Single, Strategy};
 pub use tile::TileRanks;
-
-#[cfg(test)]
-mod tests;

@@ -9,14 +9,10 @@ use Rattle.icet_model.specs.Plan.{has_place}
 use Rattle.icet_collect.specs.Collect.{CanvasView, IsCanvas, IsFree, IsFull, Places, Shows, HasWanted, blank_canvas}
 use Rattle.icet_collect.proofs.Filling.{shows_blank, shows_more, is_free, is_full, shown}
 use Rattle.icet_net.specs.CloseSteps.{AreOnce, AreWanted, ShowsFirst, kept_for}
+use Rattle.icet_model.proofs.Lists.{all_at, any_last}
 
 abbrev Pieces : Type 0
 Pieces = List (Piece (List Pixel))
-
-pub all_at : {X : Type 0} (Q : X → Type 0) (xs : List X) (k : ℕ) (d : X) → AllByRecursion Q xs → k < length xs → Q (get_or xs k d)
-all_at Q [] k d a l = absurd (omega (arith, l))
-all_at Q (x ∷ xs) zero d a l = a.0
-all_at Q (x ∷ xs) (suc k) d a l = all_at Q xs k d a.1 (omega (arith, l))
 
 whole_list : {X : Type 0} (xs : List X) (k : ℕ) → length xs ≤ k → take k xs ≡ xs
 whole_list [] zero l = refl
@@ -28,15 +24,6 @@ parted : {X : Type 0} (xs : List X) (k : ℕ) (d : X) → k < length xs → take
 parted [] k d l = absurd (omega (arith, l))
 parted (x ∷ xs) zero d l = refl
 parted (x ∷ xs) (suc k) d l = ap (λ ys. x ∷ ys) (parted xs k d (omega (arith, l)))
-
-swap_or : (x y z : Bool) → (x || (y || z)) ≡ (y || (x || z))
-swap_or true true z = refl
-swap_or true false z = refl
-swap_or false y z = refl
-
-any_last : (p : Piece (List Pixel) → Bool) (ps : Pieces) (q : Piece (List Pixel)) → list_any p (ps ++ q ∷ []) ≡ (p q || list_any p ps)
-any_last p [] q = refl
-any_last p (x ∷ xs) q = ap (λ b. p x || b) (any_last p xs q) ∙ swap_or (p x) (p q) (list_any p xs)
 
 -- no piece of the tile holds a position beyond it
 none_past : (t n i : ℕ) (ps : Pieces) → AllByRecursion (λ (p : Piece (List Pixel)). p.tile ≡ t → p.hi ≤ n) ps → n ≤ i → length (filter (has_place t i) ps) ≡ 0

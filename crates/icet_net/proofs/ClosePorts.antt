@@ -12,7 +12,7 @@ use Rattle.icet_rank.proofs.PortMoves.{has_paired, by_port}
 use Rattle.std.proofs.lemmas.List.{append_assoc, map-append, take_more, take_all, reverse-append}
 use Rattle.icet_net.specs.Opening.{ports_of}
 use Rattle.icet_net.specs.CloseSteps.{IsClosable, LosesPort, KeepsPortsFrom, IsTaken, AreDistinct, entry_of}
-use Rattle.icet_net.proofs.MetPorts.{same_or_not}
+use Rattle.icet_model.proofs.Numbers.{same_or_not}
 
 module _ {P : Type 0} where
   at_place : (ports : List (ℕ × P)) (at : ℕ) (d x : ℕ × P) → slice_get ports at ≡ Some x → slice_index_or ports at d ≡ x

@@ -51,7 +51,7 @@ carry mode mode' sizes sizes' image image' me me' ops ops' place taken slots kep
     (subst (λ x. IsAt (pixel_carrier mode' x image) me ops place taken slots kept sent) b
     (subst (λ x. IsAt (pixel_carrier x sizes image) me ops place taken slots kept sent) a h))))
 
-passed_within : (p : Exchange → Bool) (n : ℕ) (es : List Exchange) → passed p n es ≤ length (filter p es)
+pub passed_within : (p : Exchange → Bool) (n : ℕ) (es : List Exchange) → passed p n es ≤ length (filter p es)
 passed_within p zero es = omega arith
 passed_within p (suc n) [] = omega arith
 passed_within p (suc n) (e ∷ es) = go (p e) (passed_within p n es)

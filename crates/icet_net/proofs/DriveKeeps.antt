@@ -11,9 +11,7 @@ use Rattle.icet_rank.specs.Steps.{SamePairings}
 use Rattle.icet_net.specs.Net.{HullView}
 use Rattle.icet_net.specs.Ranks.{machine_at, no_machine, AreHulls, EachRank, GoesOn, ComesOn, MetOthers, SameOpenings}
 use Rattle.icet_net.specs.Drives.{DrivesOn}
-
-within_or_past : (a b : ℕ) → (a < b) ⊎ (b ≤ a)
-within_or_past a b = grind arith
+use Rattle.icet_model.proofs.Numbers.{within_or_past}
 
 same_opening : (a b : Pairing) → a ≡ b → IsSameOpening a b
 same_opening a b e = record { from = ap (λ (p : Pairing). p.from) (sym e); to = ap (λ (p : Pairing). p.to) (sym e); cap = ap (λ (p : Pairing). p.cap) (sym e); total = ap (λ (p : Pairing). p.total) (sym e) }

@@ -22,17 +22,8 @@ use Rattle.icet_rank.specs.Steps.{IsKnownReady, known_at}
 use Rattle.icet_net.specs.Net.{HullView}
 use Rattle.icet_net.specs.Ranks.{machine_at, no_machine, AreHulls, AreAllSynced, out_at, in_at, counters}
 use Rattle.icet_net.specs.Syncs.{AreRunning}
-
-within_or_past : (a b : ℕ) → (a < b) ⊎ (b ≤ a)
-within_or_past a b = grind arith
-
--- what passes in a front is no more than what passes at all
-passed_least : (p : Exchange → Bool) (n : ℕ) (es : List Exchange) → passed p n es ≤ length (filter p es)
-passed_least p n es =
-    let whole = ap (λ xs. length (filter p xs)) (take-append-drop n es) in
-    let parts = ap (λ xs. length xs) (filter-append p (take n es) (drop n es)) in
-    let sum = length-append (filter p (take n es)) (filter p (drop n es)) in
-    omega (arith, whole, parts, sum)
+use Rattle.icet_net.proofs.Course.{passed_within}
+use Rattle.icet_model.proofs.Numbers.{within_or_past}
 
 module _ {I O : Type 0} (taken : I → List (MessageView (List Pixel))) (in_room : I → ℕ) (sent : O → List (MessageView (List Pixel))) (out_room : O → ℕ) where
   -- how many messages a machine has sent to a rank, and taken from one
@@ -78,13 +69,13 @@ module _ {I O : Type 0} (taken : I → List (MessageView (List Pixel))) (in_room
         let passes : sends_to peer e ≡ true = subst (λ p. sends_to p e ≡ true) to (send_is e.kind e.peer kind) in
         let next = passed_next (sends_to peer) (of_rank (plan_exchanges hull.plan) q) (get_or (counters machines) q 0) e is_due in
         let one = one_passes (sends_to peer) e passes in
-        let least = passed_least (sends_to peer) (get_or (counters machines) q 0 + 1) (of_rank (plan_exchanges hull.plan) q) in
+        let least = passed_within (sends_to peer) (get_or (counters machines) q 0 + 1) (of_rank (plan_exchanges hull.plan) q) in
         let s = synced.synced q peer (omega (arith, next, one, least)) in
         let all = ap (λ xs. length xs) s.carried in
         let sum = length-append (in_at taken [] machines q peer) s.waiting in
         omega (arith, all, sum, s.free_are, free, sent_is q peer, taken_is q peer)
     known_for q peer e Take is_due kind from free =
-        let least = passed_least (sends_to q) (get_or (counters machines) peer 0) (of_rank (plan_exchanges hull.plan) peer) in
+        let least = passed_within (sends_to q) (get_or (counters machines) peer 0) (of_rank (plan_exchanges hull.plan) peer) in
         let s = synced.synced peer q (omega (arith, least, free)) in
         let all = ap (λ xs. length xs) s.carried in
         let sum = length-append (in_at taken [] machines peer q) s.waiting in

@@ -13,14 +13,7 @@ use Rattle.icet_rank.proofs.PortMoves.{by_port}
 use Rattle.icet_net.specs.Net.{HullView, messages_on}
 use Rattle.icet_net.specs.Ranks.{machine_at, mode_of, IsMachineOf, IsOpened, AreHulls, EachRank, SameOpenings, MetOthers, out_at, in_at}
 use Rattle.icet_net.specs.Syncs.{MetPair, IsSyncedPair, AreSyncedBelow}
-
--- whether two numbers are one
-pub same_or_not : (a b : ℕ) → (a ≡ b) ⊎ (a ≢ b)
-same_or_not a b = go (a == b) refl
-  where
-    go : (t : Bool) → (a == b) ≡ t → (a ≡ b) ⊎ (a ≢ b)
-    go true h = inl (eqb-true a b h)
-    go false h = inr (eqb-false a b h)
+use Rattle.icet_model.proofs.Numbers.{same_or_not}
 
 same_opening : (a : Pairing) → IsSameOpening a a
 same_opening a = record { from = refl; to = refl; cap = refl; total = refl }

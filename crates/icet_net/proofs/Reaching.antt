@@ -8,9 +8,9 @@ use Rattle.icet_model.specs.Plan.{PlanView}
 use Rattle.icet_rank.proofs.PortMoves.{by_port}
 use Rattle.icet_net.specs.Net.{messages_on, pair_if, pairs_from}
 use Rattle.icet_net.specs.Opening.{AreNewPorts, IsOpenedPair, KeepsPortsBut, ports_of}
-use Rattle.icet_net.proofs.Looks.{any_default}
-use Rattle.icet_net.proofs.MetPorts.{same_or_not}
 use Rattle.icet_net.proofs.NewPorts.{none_new}
+use Rattle.icet_model.proofs.Numbers.{same_or_not}
+use Rattle.icet_model.proofs.Lists.{any_default}
 
 range_more : {X : Type 0} (f : ℕ → List X) (a n : ℕ) → flat_map f (range_with_len a (suc n)) ≡ flat_map f (range_with_len a n) ++ f (a + n)
 range_more f a zero = append-nil (f a) ∙ ap f (let e : a ≡ a + 0 = omega arith in e)

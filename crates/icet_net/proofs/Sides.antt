@@ -6,7 +6,7 @@ use Rattle.icet_model.specs.Tiles.{TileView}
 use Rattle.icet_collect.specs.Collect.{CanvasView, blank_canvas}
 use Rattle.icet_net.specs.Net.{sides_at, AreSides}
 use Rattle.icet_net.specs.Opening.{sides_of}
-use Rattle.icet_net.proofs.Looks.{any_default}
+use Rattle.icet_model.proofs.Lists.{any_default}
 
 pub canvases_more : (sides : List (ℕ × ℕ)) (strands t : ℕ) (old new : List CanvasView) (x : CanvasView) (s d : ℕ × ℕ) → t < length sides → old ≡ map (λ t. blank_canvas t (sides_at sides t).0 (sides_at sides t).1 strands) (range_with_len 0 t) → s ≡ get_or sides t d → x ≡ blank_canvas t s.0 s.1 strands → new ≡ old ++ x ∷ [] → new ≡ map (λ t. blank_canvas t (sides_at sides t).0 (sides_at sides t).1 strands) (range_with_len 0 (t + 1))
 canvases_more sides strands t old new x s d l o e h n =

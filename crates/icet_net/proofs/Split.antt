@@ -9,6 +9,7 @@ use Rattle.icet_rank.specs.Moves.{Met, ArePaired}
 use Rattle.icet_rank.specs.Machine.{MachineView}
 use Rattle.icet_net.specs.Ranks.{machine_at, no_machine}
 use Rattle.icet_net.specs.Syncs.{MetPair}
+use Rattle.icet_model.proofs.Lists.{any_default}
 
 -- two places of a list were written
 pub record TwoWritten {X : Type 0} (d : X) (i j : ℕ) (x y : X) (old new : List X) : Type 0 where
@@ -54,11 +55,6 @@ module _ {I O : Type 0} (taken : I → List (MessageView (List Pixel))) (in_room
     inbox = rw (t.second, eb) inbox;
     paired = rw (t.first, t.second) paired;
   }
-
-  any_default : (xs : List (MachineView I O)) (i : ℕ) (d e : MachineView I O) → i < length xs → get_or xs i d ≡ get_or xs i e
-  any_default [] i d e l = absurd (omega (arith, l))
-  any_default (z ∷ zs) zero d e l = refl
-  any_default (z ∷ zs) (suc i) d e l = any_default zs i d e (omega (arith, l))
 
   module _ (front back : List (MachineView I O)) (is : old ≡ front ++ back) (a b : MachineView I O) where
     in_front : (i : ℕ) (m d : MachineView I O) → i < length front → m ≡ get_or front i d → machine_at old i ≡ m

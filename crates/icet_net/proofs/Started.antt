@@ -22,9 +22,10 @@ use Rattle.icet_plan.proofs.PlanFlows.{of_program}
 use Rattle.icet_net.specs.Net.{HullView, messages_on}
 use Rattle.icet_net.specs.Ranks.{machine_at, no_machine, AreOpenedWith, AreWholeImages, AreHulls}
 use Rattle.icet_net.specs.Opening.{AreNewPorts, IsOpenedPair, IsStarted, ports_of}
-use Rattle.icet_net.proofs.MetPorts.{same_or_not}
 use Rattle.icet_net.proofs.NewPorts.{all_rooms}
 use Rattle.icet_net.proofs.PairPlaces.{used_is}
+use Rattle.icet_model.proofs.Numbers.{same_or_not}
+use Rattle.icet_model.proofs.Lists.{take_next_suc}
 
 module _ (plan : PlanView) (is : IsPlan plan) where
   takes_on : (q r : ℕ) → length (filter (takes_from q) (exchanges (program plan.programs r))) ≡ messages_on plan q r
@@ -128,17 +129,6 @@ started_more {I} {O} plan mode images ins outs ms after n x y z m c e ex ey ez s
     go (inl f) = subst (λ k. IsStarted plan mode (get_or images k []) (ports_of ins k) (ports_of outs k) k (machine_at after k)) (sym f) (rw (here, ex, ey, ez) s)
     go (inr f) = let w : r < n = omega (arith, l, f) in subst (IsStarted plan mode (get_or images r []) (ports_of ins r) (ports_of outs r) r) (sym (ap (λ xs. machine_at xs r) e ∙ get_or_append_left ms (m ∷ []) no_machine r (omega (arith, c, w)))) (before r w)
 
-take_suc : {X : Type 0} (xs : List X) (i : ℕ) (x : X) → slice_get xs i ≡ Some x → take (suc i) xs ≡ take i xs ++ x ∷ []
-take_suc [] i x h = absurd (cc)
-take_suc (y ∷ ys) zero x h = ap (λ z. z ∷ []) (let e : y ≡ x = cc in e)
-take_suc (y ∷ ys) (suc i) x h = ap (λ zs. y ∷ zs) (take_suc ys i x h)
-
 -- one item more of a list
 pub copied_more : {X : Type 0} (xs old new : List X) (i : ℕ) (x : X) → slice_get xs i ≡ Some x → old ≡ take i xs → new ≡ old ++ x ∷ [] → new ≡ take (i + 1) xs
-copied_more xs old new i x h o n = n ∙ (ap (λ zs. zs ++ x ∷ []) o ∙ (sym (take_suc xs i x h) ∙ ap (λ k. take k xs) (sym (add-one i))))
-
--- what holds of each item holds of the one of a place
-pub all_at : {X : Type 0} (P : X → Type 0) (xs : List X) (r : ℕ) (d : X) → AllByRecursion P xs → r < length xs → P (get_or xs r d)
-all_at P [] r d a l = absurd (omega (arith, l))
-all_at P (x ∷ xs) zero d a l = a.0
-all_at P (x ∷ xs) (suc r) d a l = all_at P xs r d a.1 (omega (arith, l))
+copied_more xs old new i x h o n = n ∙ (ap (λ zs. zs ++ x ∷ []) o ∙ (sym (take_next_suc xs i x h) ∙ ap (λ k. take k xs) (sym (add-one i))))

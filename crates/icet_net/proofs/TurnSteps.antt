@@ -8,9 +8,7 @@ use Rattle.icet_model.specs.Wires.{Pairing}
 use Rattle.icet_rank.specs.Machine.{MachineView}
 use Rattle.icet_net.specs.Ranks.{machine_at, EachRank, GoesOn, HadTurn}
 use Rattle.icet_net.specs.Turns.{share_start, Between, TurnsOn}
-
-same_or_other : (a b : ℕ) → (a ≡ b) ⊎ (a ≢ b)
-same_or_other a b = grind arith
+use Rattle.icet_model.proofs.Numbers.{same_or_not}
 
 module _ {I O : Type 0} (in_pairing : I → Pairing) (out_pairing : O → Pairing) where
   pub goes_on_refl : (m : MachineView I O) → GoesOn in_pairing out_pairing m m
@@ -46,7 +44,7 @@ module _ {I O : Type 0} (in_pairing : I → Pairing) (out_pairing : O → Pairin
     each = λ r k. ⊎_elim
         (λ (e : r ≡ at). rw (e, get_or-set_same) (goes_on_trans (machine_at xs at) (machine_at ys at) m (subst (λ x. GoesOn in_pairing out_pairing (machine_at xs x) (machine_at ys x)) e (g.each r k)) h))
         (λ (n : r ≢ at). rw get_or-set_other (g.each r k))
-        (same_or_other r at);
+        (same_or_not r at);
   }
 
 -- a worker's ranks end behind where they begin
@@ -69,7 +67,7 @@ module _ {I O : Type 0} (P : MachineView I O → MachineView I O → Type 0) whe
     turned = λ r k j. ⊎_elim
         (λ (e : r ≡ at). rw (e, get_or-set_same) (subst (λ x. P x m) (b.behind at (omega arith)) p))
         (λ (n : r ≢ at). rw get_or-set_other (b.turned r k (omega arith)))
-        (same_or_other r at);
+        (same_or_not r at);
     before = λ r k. let n : r ≢ at = omega arith in rw get_or-set_other (b.before r k);
     behind = λ r k. let n : r ≢ at = omega arith in rw get_or-set_other (b.behind r (omega arith));
   }

@@ -22,6 +22,3 @@ pub use opening::open_net;
 pub use pictures::Pictures;
 pub use syncing::sync_all;
 pub use turning::turn;
-
-#[cfg(test)]
-mod tests;

@@ -8,6 +8,3 @@ pub mod pixel;
 pub use dense::Dense;
 pub use fragment::Fragment;
 pub use pixel::{Pixel, finish, join};
-
-#[cfg(test)]
-mod tests;

@@ -11,13 +11,11 @@ use Rattle.icet_model.specs.Exchange.{sends_to, takes_from, heading, of_rank}
 use Rattle.icet_model.specs.Matched.{IsMatched}
 use Rattle.icet_model.specs.Core.{passed, sent, taken, IsLawful, due, CanSwap, IsEnabled, after, after_all, AreEnabled, AllDone, start, total, HasLeft, SomeEnabled, Reaches, made, due_list}
 use Rattle.icet_plan.proofs.SomeEnabled.{when_sends, when_takes, passed_next, one_passes, part, IsLater, Goes, goes_or_ended, take_next}
+use Rattle.icet_model.proofs.Numbers.{same_or_not}
 
 -- a rank that is due is one of the plan's
 pub due_ranked : (all : List (List Exchange)) (now : List ℕ) (q : ℕ) (e : Exchange) → due all now q ≡ Some e → q < length all
 due_ranked all now q e h = ⊎_elim (λ (l : q < length all). l) (λ (l : length all ≤ q). let z : of_rank all q ≡ [] = get_or_past all q [] l in let n : due all now q ≡ None = ap (λ es. slice_get es (get_or now q 0)) z in absurd (cc)) (let s : (q < length all) ⊎ (length all ≤ q) = grind arith in s)
-
-same_or_not : (x q : ℕ) → (x ≡ q) ⊎ (x ≢ q)
-same_or_not x q = grind arith
 
 pub record Moved (now : List ℕ) (q : ℕ) : Type 0 where
   pub here : get_or (after now q) q 0 ≡ get_or now q 0 + 1

@@ -15,7 +15,8 @@ use Rattle.icet_model.specs.Core.{passed}
 use Rattle.icet_model.specs.Exchange.{of_op, exchanges}
 use Rattle.icet_model.specs.Run.{Carrier, MessageView, Local, fresh, step, taken_by, message_for, run, upto}
 use Rattle.icet_model.specs.Flow.{Messages, IsFlow, rounds}
-use Rattle.icet_plan.proofs.Lists.{all_weaker, filter-append, slice_front, take_next_suc, take_past_suc, all_front, all_back}
+use Rattle.icet_model.proofs.Lists.{take_next_suc}
+use Rattle.icet_plan.proofs.Lists.{all_weaker, filter-append, slice_front, take_past_suc, all_front, all_back}
 use Rattle.icet_plan.proofs.SomeEnabled.{when_sends, upto_key, take_is, passed_next, one_passes}
 use Rattle.icet_plan.proofs.LocalRuns.{exchanges-append, upto_sends, upto_uses, upto_next, upto_grows, sent_kept, nth, nth_passes, cover}
 

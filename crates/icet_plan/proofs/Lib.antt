@@ -16,7 +16,6 @@ pub mod PlanFlows
 pub mod PlanNets
 pub mod PlanRows
 pub mod PortLists
-pub mod SamplePlans
 pub mod Segments
 pub mod Shapes
 pub mod SingleSteps

@@ -81,11 +81,6 @@ slice_front (suc c) zero xs l = absurd (omega arith)
 slice_front (suc c) (suc d) [] l = refl
 slice_front (suc c) (suc d) (x ∷ xs) l = ap (λ r. x ∷ r) (slice_front c d xs (omega arith))
 
-pub take_next_suc : {X : Type 0} (es : List X) (c : ℕ) (e : X) → slice_get es c ≡ Some e → take (suc c) es ≡ take c es ++ e ∷ []
-take_next_suc [] c e h = absurd (cc)
-take_next_suc {X} (f ∷ es) zero e h = let q : f ≡ e = cc in ap (λ (g : X). g ∷ []) q
-take_next_suc (f ∷ es) (suc c) e h = ap (λ r. f ∷ r) (take_next_suc es c e h)
-
 pub take_past_suc : {X : Type 0} (es : List X) (c : ℕ) → slice_get es c ≡ None → take (suc c) es ≡ take c es
 take_past_suc [] zero h = refl
 take_past_suc [] (suc c) h = refl

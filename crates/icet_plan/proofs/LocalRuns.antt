@@ -12,7 +12,8 @@ use Rattle.icet_model.specs.Exchange.{is_send_of, is_take_of, sends_to, takes_fr
 use Rattle.icet_model.specs.Core.{passed}
 use Rattle.icet_model.specs.Exchange.{of_op, exchanges}
 use Rattle.icet_model.specs.Run.{Carrier, MessageView, Local, fresh, swapped, step, message_for, run, upto, given, message_of}
-use Rattle.icet_plan.proofs.Lists.{filter-append, slice_front, take_next_suc, slice_get_append}
+use Rattle.icet_model.proofs.Lists.{take_next_suc}
+use Rattle.icet_plan.proofs.Lists.{filter-append, slice_front, slice_get_append}
 
 pub exchanges-append : (xs ys : List Op) → exchanges (xs ++ ys) ≡ exchanges xs ++ exchanges ys
 exchanges-append [] ys = refl

@@ -9,7 +9,8 @@ use Rattle.icet_model.specs.declared.exchange.Exchange.{Exchange}
 use Rattle.icet_model.specs.Exchange.{key_of, key, is_send_of, is_take_of, sends_to, takes_from, Follows, IsRising, Heading, heading, of_rank}
 use Rattle.icet_model.specs.Matched.{IsMatched}
 use Rattle.icet_model.specs.Core.{passed, IsLawful, CanSwap, IsEnabled}
-use Rattle.icet_plan.proofs.Lists.{all_weaker, all_take, all_get, all_filter, all_map, filter-append, IfHead, behind_front, slice_first, slice_rest, slice_front, take_next_suc}
+use Rattle.icet_model.proofs.Lists.{take_next_suc}
+use Rattle.icet_plan.proofs.Lists.{all_weaker, all_take, all_get, all_filter, all_map, filter-append, IfHead, behind_front, slice_first, slice_rest, slice_front}
 
 pub record IsSendOf (e : Exchange) (r : ℕ) : Type 0 where
   pub kind : e.kind ≡ Send

@@ -1,9 +1,10 @@
 //! What holds of all plans and of all interleavings of their ranks.
-ghost use Rattle.std.specs.Prelude.{◌≡◌, ◌≢◌, ◌≤◌, ℕ, List, length, get_or, map};
+ghost use Rattle.std.specs.Prelude.{◌≡◌, ◌≢◌, ◌≤◌, ◌∷◌, [], ℕ, List, length, get_or, map};
 ghost use Rattle.icet_model.specs.declared.names.Mode.{Mode};
 ghost use Rattle.icet_model.specs.declared.bracket.Bracket.{Bracket};
 ghost use Rattle.icet_model.specs.declared.exchange.Exchange.{Exchange};
 ghost use Rattle.icet_model.specs.declared.exchange.Op.{Op};
+ghost use Rattle.icet_model.specs.declared.exchange.Op.TheVariants.{Keep, Load};
 ghost use Rattle.icet_model.specs.Exchange.{exchanges, of_rank};
 ghost use Rattle.icet_model.specs.Matched.{IsMatched};
 ghost use Rattle.icet_model.specs.Run.{Carrier};
@@ -12,6 +13,7 @@ ghost use Rattle.icet_model.specs.Bracket.{Images};
 ghost use Rattle.icet_model.specs.Plan.{PlanView, IsSound, plan_exchanges, pixel_carrier, AreWhole};
 ghost use Rattle.icet_model.specs.Traffic.{pixel_messages};
 ghost use Rattle.icet_model.specs.Core.{IsLawful, HasLeft, SomeEnabled, IsEnabled, Reaches, AreEnabled, AllDone, start, after, after_all, total, made};
+ghost use Rattle.icet_plan.specs.Samples.{another_leaf, one_tile, send, take};
 
 /// No stuck state: in a lawful state in which some rank has an exchange left, some rank is enabled.
 #[tactic(auto, using(crate::proofs::CoreLaws::some_enabled))]
@@ -47,4 +49,17 @@ pub fn one_flow()
 /// With pixels in place of brackets the flow has the same messages, each with the values of its bracket.
 pub fn traffic_is_flow()
     ensures { (mode : Mode) (plan : PlanView) (images : Images) → IsMatched (plan_exchanges plan) → IsSound plan → AreWhole plan.tiles images → (q r : ℕ) → flow (λ me. pixel_carrier mode plan.tiles.sizes (images me)) plan.programs q r ≡ pixel_messages mode plan images q r }
+{}
+
+/// What is no plan, one for each condition: a take before a send of its round, two messages of a pair
+/// in one round, a take that nobody sends for, a take of another range, a slot that was never filled,
+/// a position that is kept twice, and a piece in another order than the tile's bracket.
+pub fn wrong_plans()
+    ensures takes_first { IsMatched ((take 0 1 0 1 ∷ send 0 1 0 1 ∷ []) ∷ (send 0 0 0 1 ∷ take 0 0 0 1 ∷ []) ∷ []) → ⊥ }
+    ensures twice_in_a_round { IsMatched ((send 0 1 0 1 ∷ send 0 1 1 1 ∷ []) ∷ (take 0 0 0 1 ∷ take 0 0 1 1 ∷ []) ∷ []) → ⊥ }
+    ensures takes_in_vain { IsMatched ((take 0 1 0 1 ∷ []) ∷ [] ∷ []) → ⊥ }
+    ensures takes_another_range { IsMatched ((take 0 1 0 1 ∷ []) ∷ (send 0 0 0 2 ∷ []) ∷ []) → ⊥ }
+    ensures never_filled { IsSound (one_tile (Keep 0 ∷ [])) → ⊥ }
+    ensures kept_twice { IsSound (one_tile (Load 0 0 ∷ Keep 0 ∷ Keep 0 ∷ [])) → ⊥ }
+    ensures another_bracket { IsSound another_leaf → ⊥ }
 {}

@@ -7,13 +7,9 @@ mod pairs;
 pub mod plan;
 pub mod program;
 pub mod progress;
-pub mod samples;
 
 pub use icet_model::bracket::Bracket;
 pub use icet_model::exchange::{Exchange, Kind, Op};
 pub use plan::{Leg, Plan};
 pub use program::Program;
 pub use progress::{Advance, Core};
-
-#[cfg(test)]
-mod tests;

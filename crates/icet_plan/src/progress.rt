@@ -67,7 +67,8 @@ impl<'a> Core<'a> {
 
     /// The number of ranks of the plan.
     pub fn ranks(&self) -> u32
-        ensures { result ≡ length self.now.plan.programs }
+        ensures ranks { result ≡ length self.now.plan.programs }
+        ensures lawful { IsLawful (all_of self.now) self.now.cap self.now.done }
     {
         self.plan.ranks()
     }

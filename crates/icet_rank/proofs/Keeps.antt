@@ -12,12 +12,14 @@ use Rattle.icet_model.specs.Wires.{Pairing}
 use Rattle.icet_model.specs.Fit.{FitsSwap, FitsSend, shape_at, shape_of}
 use Rattle.icet_model.specs.Ports.{at_list, IsAt}
 use Rattle.icet_model.specs.Ports.{by_peer}
-use Rattle.icet_plan.proofs.Lists.{take_next_suc, all_get}
+use Rattle.icet_model.proofs.Lists.{take_next_suc}
+use Rattle.icet_plan.proofs.Lists.{all_get}
 use Rattle.icet_plan.proofs.LocalRuns.{exchanges-append}
 use Rattle.icet_plan.proofs.MachineSteps.{local_moves, send_moves, take_moves}
 use Rattle.icet_rank.specs.Fits.{IsFilled, undisplayed, FitsAnyDisplay, AllFitAnyDisplay}
 use Rattle.icet_rank.specs.Moves.{Carried, Missed, Met}
 use Rattle.icet_rank.specs.Machine.{Names, Runs}
+use Rattle.icet_plan.proofs.FlowIsOne.{at_exchange}
 
 pub below : {X : Type 0} (xs : List X) (n : ℕ) (x : X) → slice_get xs n ≡ Some x → n < length xs
 below [] n x h = absurd (cc)
@@ -39,15 +41,6 @@ fits_at : {T : Type 0} (sizes : List ℕ) (c : Carrier T) (me : ℕ) (t : ℕ �
 fits_at sizes c me t [] n op s h a = absurd (cc)
 fits_at sizes c me t (o ∷ ops) zero op s h a = subst (λ z. FitsAnyDisplay sizes z (shape_at s)) (let e : o ≡ op = cc in e) a.0
 fits_at sizes c me t (o ∷ ops) (suc n) op s h a = fits_at sizes c me t ops n op (step c me (message_for t s.used o) o s) h a.1
-
-due_at : (ops : List Op) (n : ℕ) (e : Exchange) (slot : ℕ) → slice_get ops n ≡ Some (Swap e slot) → slice_get (exchanges ops) (length (exchanges (take n ops))) ≡ Some e
-due_at [] n e slot h = absurd (cc)
-due_at (o ∷ ops) zero e slot h = ap (λ z. slice_get (of_op z ++ exchanges ops) 0) (let y : o ≡ Swap e slot = cc in y)
-due_at (o ∷ ops) (suc n) e slot h = behind (of_op o) (exchanges ops) (exchanges (take n ops)) (due_at ops n e slot h)
-  where
-    behind : (xs ys zs : List Exchange) → slice_get ys (length zs) ≡ Some e → slice_get (xs ++ ys) (length (xs ++ zs)) ≡ Some e
-    behind [] ys zs y = y
-    behind (x ∷ xs) ys zs y = behind xs ys zs y
 
 module _ (ops : List Op) (place : ℕ) where
   left : (op : Op) → slice_get ops place ≡ Some op → exchanges (drop place ops) ≡ of_op op ++ exchanges (drop (suc place) ops)
@@ -156,7 +149,7 @@ module _ {I O T : Type 0} (taken : I → List (MessageView T)) (in_room : I → 
     }
 
     pub due_now : (e : Exchange) (slot : ℕ) → slice_get ops place ≡ Some (Swap e slot) → slice_get (exchanges ops) counter ≡ Some e
-    due_now e slot h = ap (λ n. slice_get (exchanges ops) n) r.count ∙ due_at ops place e slot h
+    due_now e slot h = ap (λ n. slice_get (exchanges ops) n) r.count ∙ at_exchange ops place e slot h
 
     pub local_on : (op : Op) → slice_get ops place ≡ Some op → of_op op ≡ [] → ((t : ℕ → List (MessageView T)) (u : ℕ → ℕ) → message_for t u op ≡ None) → ((s : Local T) → (step c me None op s).sent ≡ s.sent) → ((s : Local T) → (step c me None op s).used ≡ s.used) → (slots_new : List (Option (Piece T))) (kept_new : List (Piece T)) → at_list slots_new ≡ (step c me None op (record { slots = at_list slots; kept = kept; sent = by_peer sent [] outboxes; used = λ p. length (by_peer taken [] inboxes p) })).slots → kept_new ≡ (step c me None op (record { slots = at_list slots; kept = kept; sent = by_peer sent [] outboxes; used = λ p. length (by_peer taken [] inboxes p) })).kept → length slots_new ≡ length slots → Runs taken in_room sent out_room sizes c me ops (place + 1) counter slots_new kept_new inboxes outboxes
     local_on op h none quiet same_sent same_used slots_new kept_new s k l =

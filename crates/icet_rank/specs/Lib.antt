@@ -1,5 +1,4 @@
 pub mod Fits
 pub mod Machine
 pub mod Moves
-pub mod Samples
 pub mod Steps

@@ -9,6 +9,3 @@ mod sync;
 
 pub use image::Image;
 pub use machine::{Parts, RankMachine, Step, sync_pair};
-
-#[cfg(test)]
-mod tests;

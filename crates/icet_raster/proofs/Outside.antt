@@ -15,6 +15,7 @@ use Rattle.icet_model.specs.Boxes.{right_of, bottom_of, HasPixel, meets, hull, h
 use Rattle.icet_raster.specs.Boxes.{CoversPixel}
 use Rattle.icet_raster.proofs.Hulls.{box_from, right-hull, bottom-hull}
 use Rattle.icet_raster.proofs.FullImages.{map_same, blanks, wide}
+use Rattle.icet_model.proofs.Overlaps.{pixel_meets}
 
 -- the hull has the pixels of both
 hull_left : (one other : Rect) (x y : ℤ) → HasPixel one x y → HasPixel (hull one other) x y
@@ -65,16 +66,6 @@ drawn_from mode (shape ∷ shapes) before start x y fragment h e =
 
 pub drawn_in_box : (mode : Mode) (shapes : List Drawing) (x y : ℕ) (fragment : FragmentView) → drawn mode shapes x y ≡ Some fragment → CoversPixel (box shapes) x y
 drawn_in_box mode shapes x y fragment e = drawn_from mode shapes None None x y fragment (λ f g. absurd (cc)) e
-
--- ranges with a number in both overlap
-one_in_both : (a b c d z : ℤ) → a ≤ℤ z → z <ℤ b → c ≤ℤ z → z <ℤ d → lt_z (int_max a c) (int_min b d) ≡ true
-one_in_both a b c d z p q r s = grind (arith, ints, clamps)
-
-pixel_meets : (one other : Rect) (x y : ℤ) → HasPixel one x y → HasPixel other x y → meets one other ≡ true
-pixel_meets one other x y g h =
-    let across = one_in_both one.x (right_of one) other.x (right_of other) x g.left g.right h.left h.right in
-    let down = one_in_both one.y (bottom_of one) other.y (bottom_of other) y g.top g.bottom h.top h.bottom in
-    rw (across, down) refl
 
 -- pixel i of an area lies in it
 in_area : (area : Area) (i : ℕ) → i < area.w * area.h → HasPixel (rect_of area) (pos (area.x + i % area.w)) (pos (area.y + i / area.w))

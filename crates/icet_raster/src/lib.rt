@@ -9,6 +9,3 @@ pub mod shape;
 pub use boxes::box_of;
 pub use drawing::draw;
 pub use shape::Shape;
-
-#[cfg(test)]
-mod tests;

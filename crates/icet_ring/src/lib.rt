@@ -12,6 +12,3 @@ pub use mem_wires::MemWires;
 pub use message::Message;
 pub use ports::{Inbox, Outbox};
 pub use wires::Wires;
-
-#[cfg(test)]
-mod tests;

@@ -4,6 +4,3 @@
 pub mod sparse;
 
 pub use sparse::Sparse;
-
-#[cfg(test)]
-mod tests;

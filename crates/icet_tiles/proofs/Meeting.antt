@@ -5,6 +5,7 @@ use Rattle.std.specs.Int.Signed.{lt_z}
 use Rattle.std.proofs.lemmas.Int.{ints, clamps}
 use Rattle.icet_model.specs.declared.names.Rect.{Rect}
 use Rattle.icet_model.specs.Boxes.{right_of, bottom_of, Meet, meets}
+use Rattle.icet_model.proofs.Overlaps.{pixel_meets}
 
 -- the test whether two ranges share a number, each from its first on
 abbrev pub overlap_of : ℤ → ℕ → ℤ → ℕ → Bool
@@ -13,10 +14,6 @@ overlap_of first count other_first other_count = lt_z (int_max first other_first
 -- the later start lies in both ranges
 starts_in_both : (a b c d : ℤ) → lt_z (int_max a c) (int_min b d) ≡ true → (a ≤ℤ int_max a c) × (int_max a c <ℤ b) × (c ≤ℤ int_max a c) × (int_max a c <ℤ d)
 starts_in_both a b c d h = (omega (arith, ints, clamps), omega (arith, ints, clamps), omega (arith, ints, clamps), omega (arith, ints, clamps))
-
--- a number in both ranges
-one_in_both : (a b c d z : ℤ) → a ≤ℤ z → z <ℤ b → c ≤ℤ z → z <ℤ d → lt_z (int_max a c) (int_min b d) ≡ true
-one_in_both a b c d z p q r s = grind (arith, ints, clamps)
 
 both : (p q : Bool) → p && q ≡ true → (p ≡ true) × (q ≡ true)
 both true q h = (refl, h)
@@ -35,14 +32,8 @@ meets_pixel one other h =
       in_other = record { left = across.2; right = across.3; top = down.2; bottom = down.3 };
     }
 
-pixel_meets : (one other : Rect) → Meet one other → meets one other ≡ true
-pixel_meets one other m =
-    let across = one_in_both one.x (right_of one) other.x (right_of other) m.x m.in_one.left m.in_one.right m.in_other.left m.in_other.right in
-    let down = one_in_both one.y (bottom_of one) other.y (bottom_of other) m.y m.in_one.top m.in_one.bottom m.in_other.top m.in_other.bottom in
-    rw (across, down) refl
-
 pub meet_exactly : (answer : Bool) (one other : Rect) → answer ≡ meets one other → IsTrue answer ↔ Meet one other
-meet_exactly answer one other e = (λ t. meets_pixel one other (sym e ∙ t), λ m. e ∙ pixel_meets one other m)
+meet_exactly answer one other e = (λ t. meets_pixel one other (sym e ∙ t), λ m. e ∙ pixel_meets one other m.x m.y m.in_one m.in_other)
 
 -- where the columns overlap it is for the rows to say whether the rectangles meet, and else they don't
 pub met_by_rows : (one other : Rect) (across down : Bool) → across ≡ overlap_of one.x one.w other.x other.w → across ≡ true → down ≡ overlap_of one.y one.h other.y other.h → down ≡ meets one other

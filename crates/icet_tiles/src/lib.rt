@@ -8,6 +8,3 @@ pub mod layout;
 pub use area::{contains, meet};
 pub use contributors::Contributors;
 pub use layout::{Layout, Tile};
-
-#[cfg(test)]
-mod tests;

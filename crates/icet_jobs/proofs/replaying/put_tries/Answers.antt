@@ -14,6 +14,5 @@ loop-rank-preserved g c =
     let within : c.loop-rank.rank-index < length c.args.schedule.now = omega (arith, c.loop-rank-test.true) in
     record {
       put = puts_on c.loop-rank.core c.put_try.new.core c.args.schedule.now c.loop-rank.rank-index _ _ _ _ _ _ _ _ _ _ _ (replay_of c.args.core.now c.args.schedule.now) within c.loop-rank.invariant.put c.in_ok-put_try.ensures.puts c.in_ok-put_try.ensures.cause.later c.in_ok-put_try.ensures.failed c.in_ok-put_try.ensures.core;
-      within = c.in_ok-put_try.ensures.within;
       same_reference = c.in_ok-put_try.ensures.same_reference ∙ c.loop-rank.invariant.same_reference;
     }

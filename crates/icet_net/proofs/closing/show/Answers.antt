@@ -3,11 +3,11 @@ use Rattle.std.proofs.lemmas.Bool.{both_ways}
 use Rattle.icet_model.specs.Pixel.{Pixel}
 use Rattle.icet_model.specs.Run.{Piece}
 use Rattle.icet_collect.specs.Collect.{IsFree, Places}
-use Rattle.icet_net.proofs.Looks.{any_default}
 use Rattle.icet_net.specs.CloseSteps.{ShowsFirst}
 use Rattle.icet_net.proofs.ClosePieces.{free_at, placed_more, skipped_more, full_at, picture_is}
 use Rattle.icet_net.proofs.closing.show.Goals as goal
 use Rattle.icet_net.proofs.closing.show.Goals.{then-tile, else-tile}
+use Rattle.icet_model.proofs.Lists.{any_default}
 
 pub place-requires-clause-free : goal.place-requires-clause-free
 place-requires-clause-free c = subst (λ (p : Piece (List Pixel)). IsFree c.placing.canvas p) (sym c.index-kept-i-then-tile.is) (free_at c.args.tile _ c.placing.i c.args.kept.now c.args.canvas c.placing.canvas c.placing.invariant c.index-kept-i-then-tile.result c.requires.once c.placing-test.true)

@@ -2,8 +2,9 @@ use Rattle.std.proofs.Common.{[], length, sym, ap, ◌∙◌, subst, arith}
 use Rattle.icet_net.specs.Net.{AreSides, blank_canvases}
 use Rattle.icet_net.specs.Ranks.{AreWholeImages}
 use Rattle.icet_net.proofs.Sides.{sides_small, are_sides}
-use Rattle.icet_net.proofs.Started.{started_hulls, opened_with, all_at}
+use Rattle.icet_net.proofs.Started.{started_hulls, opened_with}
 use Rattle.icet_net.proofs.opening.open_net.Goals as goal
+use Rattle.icet_model.proofs.Lists.{all_at}
 
 pub canvases_of-requires-clause-small : goal.canvases_of-requires-clause-small
 canvases_of-requires-clause-small g c = sides_small c.args.layout.now c.args.plan.tiles.sizes c.as_slice.result.now c.requires.fits.sizes c.requires.fits.small (c.as_slice.ensures.value ∙ c.in_ok-sides.ensures)

@@ -1,0 +1,108 @@
+#!/usr/bin/env python3
+"""Runs the gate, `rt ci`, at the top of this clone, and tells what each crate cost it.
+
+    bench/gate_times.py [--processors N] [--log FILE]
+
+With --processors the gate gets the first N processors of the machine alone; --log keeps what it says. Each
+second the prover's processes are looked at. A row is a crate, with the processor seconds of its proof, of
+its tests' proof and of its must-fail edits, the minutes from the first to the last of them, and the most
+memory, in GB, that one process took. The rows are a table in Markdown; the exit status is the gate's.
+"""
+
+import argparse
+import collections
+import os
+import pathlib
+import subprocess
+import sys
+import time
+
+TOP = pathlib.Path(__file__).resolve().parent.parent
+TICKS = os.sysconf("SC_CLK_TCK")
+PAGE = os.sysconf("SC_PAGE_SIZE")
+PHASES = ("proof", "tests", "edits")
+
+
+def phase_of(words, folder):
+    """What a process of the prover works on, or None where it isn't this clone's."""
+    if folder.startswith(f"{TOP}/"):
+        return "tests" if b"--test" in words else "proof"
+    # an edit is tried on a copy elsewhere, which still names this clone's libraries
+    if "rt-edit-" in folder and any(it.startswith(f"dependency={TOP}/".encode()) for it in words):
+        return "edits"
+    # the lowest crate names no library of this clone
+    if "rt-edit-" in folder and not any(b"/crates/" in it for it in words):
+        return "edits"
+    return None
+
+
+def looked_at(pid):
+    """Returns (crate, phase, processor seconds, bytes of memory) of a process of the prover, else None."""
+    try:
+        words = pathlib.Path(f"/proc/{pid}/cmdline").read_bytes().split(b"\0")
+        if b"--crate-name" not in words or not words[0].endswith(b"rattle"):
+            return None
+        phase = phase_of(words, os.readlink(f"/proc/{pid}/cwd"))
+        fields = pathlib.Path(f"/proc/{pid}/stat").read_text().rpartition(")")[2].split()
+    except OSError:
+        return None
+    if phase is None:
+        return None
+    crate = words[words.index(b"--crate-name") + 1].decode()
+    return crate, phase, (int(fields[11]) + int(fields[12])) / TICKS, int(fields[21]) * PAGE
+
+
+class Costs:
+    """What was seen of each crate's processes."""
+
+    def __init__(self):
+        self.seconds = collections.defaultdict(dict)
+        self.seen = {}
+        self.memory = collections.defaultdict(int)
+
+    def look(self, now):
+        for pid in filter(str.isdigit, os.listdir("/proc")):
+            found = looked_at(pid)
+            if found:
+                crate, phase, used, memory = found
+                self.seconds[crate, phase][pid] = used
+                self.seen[crate] = (self.seen.get(crate, (now, now))[0], now)
+                self.memory[crate] = max(self.memory[crate], memory)
+
+    def used(self, crate):
+        return [sum(self.seconds[crate, phase].values()) for phase in PHASES]
+
+    def rows(self):
+        crates = sorted(self.seen, key=lambda crate: self.seen[crate])
+        for crate in crates:
+            first, last = self.seen[crate]
+            cells = [f"{it:.0f}" for it in self.used(crate)]
+            cells += [f"{first / 60:.1f}", f"{last / 60:.1f}", f"{self.memory[crate] / 2**30:.1f}"]
+            yield f"| `{crate}` | " + " | ".join(cells) + " |"
+        sums = [sum(column) for column in zip(*(self.used(crate) for crate in crates))]
+        yield "| all | " + " | ".join(f"{it:.0f}" for it in sums) + " | | | |"
+
+
+def main():
+    parser = argparse.ArgumentParser(description=__doc__.split("\n", 1)[0])
+    parser.add_argument("--processors", type=int)
+    parser.add_argument("--log", default=os.devnull)
+    given = parser.parse_args()
+    narrow = ["taskset", "-c", f"0-{given.processors - 1}"] if given.processors else []
+    costs, start = Costs(), time.monotonic()
+    with open(given.log, "w") as log:
+        gate = subprocess.Popen([*narrow, "rt", "ci"], cwd=TOP, stdout=log, stderr=subprocess.STDOUT)
+        while gate.poll() is None:
+            costs.look(time.monotonic() - start)
+            time.sleep(1)
+    minutes = (time.monotonic() - start) / 60
+    count = given.processors or len(os.sched_getaffinity(0))
+    print(f"{minutes:.1f} minutes on {count} processors, status {gate.returncode}\n")
+    print("| Crate | proof | tests | edits | from | to | memory |")
+    print("|---|---|---|---|---|---|---|")
+    print("\n".join(costs.rows()))
+    return gate.returncode
+
+
+if __name__ == "__main__":
+    sys.exit(main())

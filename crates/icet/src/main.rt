@@ -1,0 +1,110 @@
+//! The program `icet`: composites what parallel renderers drew apart.
+#![tactic(auto)]
+
+ghost use Rattle.std.specs.Prelude.{◌≡◌, ◌⊎◌, IfOk, codes, map, string_bytes};
+ghost use Rattle.icet_cli.specs.Notes.{HasNoted};
+ghost use Rattle.icet_cli.specs.Outcome.{RunsTo};
+
+use icet_base::{PlainGate, Sink, Source, StdSink, StdSource};
+use icet_cli::notes::note;
+use icet_cli::{Status, run};
+use icet_ring::{MemWires, Wires};
+use std::alloc::{AllocError, Global};
+use std::process::ExitCode;
+use std::thread::Threads;
+use std::{env, io};
+
+/// The program over the real standard input, output and error; source, sinks, wires and gate are made
+/// here and nowhere else.
+fn main(rt: HostRuntime) -> ExitCode {
+    let mut source = StdSource::new(rt.stdin());
+    let mut sink = StdSink::new(rt.stdout());
+    let mut notes = StdSink::new(rt.stderr());
+    let mut wires = MemWires::new(rt.alloc());
+    let status = match arguments(rt.alloc(), env::args(&rt)) {
+        Ok(arguments) => run_on(
+            &rt,
+            rt.alloc(),
+            arguments.as_slice(),
+            &mut source,
+            &mut sink,
+            &mut notes,
+            &mut wires,
+        ),
+        Err(refusal) => refuse(refusal, &mut notes),
+    };
+    ExitCode::from(status.number())
+}
+
+/// Why there are no words.
+#[derive(Clone, Copy, Debug, PartialEq, Eq)]
+enum Refusal {
+    NotUnicode,
+    NoMemory,
+}
+
+/// The arguments behind the program's name.
+fn arguments(alloc: Global, args: io::Result<env::Args>) -> Result<Vec<String>, Refusal> {
+    match args {
+        Ok(args) => match args.skip(1).collect(alloc) {
+            Ok(arguments) => Ok(arguments),
+            Err(_) => Err(Refusal::NoMemory),
+        },
+        Err(error) => match error.kind() {
+            io::ErrorKind::OutOfMemory => Err(Refusal::NoMemory),
+            _ => Err(Refusal::NotUnicode),
+        },
+    }
+}
+
+/// Words that aren't Unicode are refused words; where they can't be held, nothing is written.
+fn refuse<N: Sink>(refusal: Refusal, notes: &mut N) -> Status
+    ensures refused { refusal ≡ Refusal.NotUnicode → (result ≡ Status.WordsRefused) × HasNoted (N.written notes.old) (N.written notes.new) (N.faults notes.old) (N.faults notes.new) (codes "icet: words refused\n") }
+    ensures wanting { refusal ≡ Refusal.NoMemory → (result ≡ Status.NoMemory) × (notes.new ≡ notes.old) }
+{
+    match refusal {
+        Refusal::NotUnicode => {
+            note(notes, b"icet: words refused\n");
+            Status::WordsRefused
+        }
+        Refusal::NoMemory => Status::NoMemory,
+    }
+}
+
+/// Runs the command that these arguments are. Where they can't be held, nothing is done.
+fn run_on<S: Source, K: Sink, N: Sink, W: Wires, R: Threads + Sync>(
+    rt: &R,
+    alloc: Global,
+    arguments: &[String],
+    source: &mut S,
+    sink: &mut K,
+    notes: &mut N,
+    wires: &mut W,
+) -> Status
+    ensures { RunsTo (map (λ argument. string_bytes argument) arguments.now) (record { left = S.left source.old; read_faults = S.faults source.old; written = K.written sink.old; write_faults = K.faults sink.old; noted = N.written notes.old; note_faults = N.faults notes.old; log = W.log wires.old }) (record { left = S.left source.new; read_faults = S.faults source.new; written = K.written sink.new; write_faults = K.faults sink.new; noted = N.written notes.new; note_faults = N.faults notes.new; log = W.log wires.new }) result ⊎ ((result ≡ Status.NoMemory) × (source.new ≡ source.old) × (sink.new ≡ sink.old) × (notes.new ≡ notes.old) × (wires.new ≡ wires.old)) }
+{
+    match texts_of(alloc, arguments) {
+        Ok(words) => run(
+            rt,
+            alloc,
+            words.as_slice(),
+            source,
+            sink,
+            notes,
+            wires,
+            &PlainGate,
+        ),
+        Err(_) => Status::NoMemory,
+    }
+}
+
+/// The arguments as texts.
+fn texts_of<'a>(alloc: Global, arguments: &'a [String]) -> Result<Vec<&'a str>, AllocError>
+    ensures { IfOk result (λ words. map (λ word. word.now) words.items ≡ map (λ argument. string_bytes argument) arguments.now) }
+{
+    let mut words = Vec::new(alloc);
+    for argument in arguments {
+        words.push(argument.as_str())?;
+    }
+    Ok(words)
+}
