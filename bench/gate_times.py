@@ -1,12 +1,13 @@
 #!/usr/bin/env python3
-"""Runs the gate, `rt ci`, at the top of this clone, and tells what each crate cost it.
+"""Runs the gate from nothing, `rt ci --anew`, at the top of this clone, and tells what each crate cost it.
 
-    bench/gate_times.py [--processors N] [--log FILE]
+    bench/gate_times.py [--processors LIST] [--log FILE]
 
-With --processors the gate gets the first N processors of the machine alone; --log keeps what it says. Each
+With --processors, as 0,2, the gate gets these processors of the machine alone; --log keeps what it says. Each
 second the prover's processes are looked at. A row is a crate, with the processor seconds of its proof, of
 its tests' proof and of its must-fail edits, the minutes from the first to the last of them, and the most
-memory, in GB, that one process took. The rows are a table in Markdown; the exit status is the gate's.
+memory, in GB, that one process took. The rows are a table in Markdown; the exit status is the gate's. On a virtual
+machine the share of all processors' time that its host kept for others is told too.
 """
 
 import argparse
@@ -83,21 +84,27 @@ class Costs:
         yield "| all | " + " | ".join(f"{it:.0f}" for it in sums) + " | | | |"
 
 
+def lost():
+    """Returns the processor seconds in which a virtual machine's host ran something else."""
+    return int(pathlib.Path("/proc/stat").read_text().split()[8]) / TICKS
+
+
 def main():
     parser = argparse.ArgumentParser(description=__doc__.split("\n", 1)[0])
-    parser.add_argument("--processors", type=int)
+    parser.add_argument("--processors")
     parser.add_argument("--log", default=os.devnull)
     given = parser.parse_args()
-    narrow = ["taskset", "-c", f"0-{given.processors - 1}"] if given.processors else []
-    costs, start = Costs(), time.monotonic()
+    if given.processors:
+        os.sched_setaffinity(0, {int(it) for it in given.processors.split(",")})
+    costs, start, before = Costs(), time.monotonic(), lost()
     with open(given.log, "w") as log:
-        gate = subprocess.Popen([*narrow, "rt", "ci"], cwd=TOP, stdout=log, stderr=subprocess.STDOUT)
+        gate = subprocess.Popen(["rt", "ci", "--anew"], cwd=TOP, stdout=log, stderr=subprocess.STDOUT)
         while gate.poll() is None:
             costs.look(time.monotonic() - start)
             time.sleep(1)
-    minutes = (time.monotonic() - start) / 60
-    count = given.processors or len(os.sched_getaffinity(0))
-    print(f"{minutes:.1f} minutes on {count} processors, status {gate.returncode}\n")
+    minutes, count = (time.monotonic() - start) / 60, len(os.sched_getaffinity(0))
+    share = (lost() - before) / (60 * minutes * os.cpu_count())
+    print(f"{minutes:.1f} minutes on {count} processors, {share:.0%} of them lost to the host, status {gate.returncode}\n")
     print("| Crate | proof | tests | edits | from | to | memory |")
     print("|---|---|---|---|---|---|---|")
     print("\n".join(costs.rows()))

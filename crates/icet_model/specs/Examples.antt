@@ -56,3 +56,11 @@ one_message =
     (record { round = 0; kind = Take; peer = 1; tile = 0; lo = 0; hi = 1 } ∷ [])
     ∷ (record { round = 0; kind = Send; peer = 0; tile = 0; lo = 0; hi = 1 } ∷ [])
     ∷ []
+
+-- two tiles of one position, which two ranks join one after the other, each showing one of them: rank 1
+-- sends its parts, then rank 0 sends what it joined of tile 1
+abbrev pub two_tiles : List (List Exchange)
+two_tiles =
+    (record { round = 0; kind = Take; peer = 1; tile = 0; lo = 0; hi = 1 } ∷ record { round = 2; kind = Take; peer = 1; tile = 1; lo = 0; hi = 1 } ∷ record { round = 3; kind = Send; peer = 1; tile = 1; lo = 0; hi = 1 } ∷ [])
+    ∷ (record { round = 0; kind = Send; peer = 0; tile = 0; lo = 0; hi = 1 } ∷ record { round = 2; kind = Send; peer = 0; tile = 1; lo = 0; hi = 1 } ∷ record { round = 3; kind = Take; peer = 0; tile = 1; lo = 0; hi = 1 } ∷ [])
+    ∷ []

@@ -16,7 +16,7 @@ ghost use Rattle.icet_model.specs.Picture.{header, picture_text};
 ghost use Rattle.icet_model.specs.Jobs.{composite_text, plain_picture};
 ghost use Rattle.icet_model.specs.Words.{Composite, Replay, command_of};
 ghost use Rattle.icet_model.specs.Replay.{replay_from};
-ghost use Rattle.icet_model.specs.Examples.{clear, grey, grey_point, one_message, one_point, one_point_text, tie, tie_text, tile};
+ghost use Rattle.icet_model.specs.Examples.{clear, grey, grey_point, one_message, one_point, one_point_text, tie, tie_text, tile, two_tiles};
 
 /// By depth the nearer of two pixels is seen, the front one at equal depth, and the only one alone.
 pub fn two_pixels()
@@ -127,10 +127,12 @@ pub fn words()
     ensures none { command_of [] ≡ None }
 {}
 
-/// The replay of a message from rank 1 to rank 0, of which each ring holds one.
+/// Replays where each ring holds one message: of a message from rank 1 to rank 0, and of two tiles joined one
+/// after the other, where a sender waits for its ring and a taker for its message.
 pub fn replays()
     ensures in_order { replay_from one_message 1 (0 ∷ 0 ∷ []) (0 ∷ 1 ∷ 0 ∷ 1 ∷ 0 ∷ []) ≡ codes "0 stalled\n1 moved\n0 moved\n1 done\n0 done\nfinished\n" }
     ensures cut_short { replay_from one_message 1 (0 ∷ 0 ∷ []) (0 ∷ 2 ∷ []) ≡ codes "0 stalled\n2 absent\nunfinished 0\n" }
+    ensures several_rounds { replay_from two_tiles 1 (0 ∷ 0 ∷ []) (0 ∷ 1 ∷ 1 ∷ 0 ∷ 0 ∷ 1 ∷ 0 ∷ 0 ∷ 0 ∷ 1 ∷ 1 ∷ []) ≡ codes "0 stalled\n1 moved\n1 stalled\n0 moved\n0 stalled\n1 moved\n0 moved\n0 moved\n0 done\n1 moved\n1 done\nfinished\n" }
 {}
 
 /// Two points on a diagonal have a box of nine pixels, which meets tiles that neither point is on. Of

@@ -2,7 +2,7 @@
 #![tactic(auto)]
 
 pub mod fault;
-pub mod line;
+mod line;
 pub mod numeral;
 pub mod read;
 pub mod scene;

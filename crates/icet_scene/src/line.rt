@@ -13,7 +13,7 @@ use icet_raster::Shape;
 use icet_tiles::Tile;
 
 /// What a line says.
-#[derive(Clone, Copy, Debug, PartialEq, Eq)]
+#[derive(Clone, Copy)]
 pub enum Line {
     Head,
     Mode(Mode),
@@ -24,7 +24,7 @@ pub enum Line {
 }
 
 /// Where a line stands: behind which other.
-#[derive(Clone, Copy, Debug, PartialEq, Eq)]
+#[derive(Clone, Copy)]
 pub enum Place {
     Start,
     AfterHead,

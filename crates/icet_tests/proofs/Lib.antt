@@ -1,2 +1,1 @@
-pub mod OneTile
 pub mod SamplePlans

@@ -1,7 +1,11 @@
 use Rattle.std.proofs.Common.{◌≡◌, ◌∙◌, ap, length, arith, rules}
+use Rattle.std.proofs.lemmas.Grind.{common_steps}
 use Rattle.icet_merge.specs.Merge.{list_joined}
-use Rattle.icet_merge.proofs.Joins.{joined_pushed, length_joined}
+use Rattle.icet_merge.proofs.Joins.{joined_more, joined_pushed, length_joined}
 use Rattle.icet_merge.proofs.joining.join_lists.Goals as goal
+
+pub loop-i-preserved : goal.loop-i-preserved
+loop-i-preserved c = grind (arith, common_steps, joined_more)
 
 joined : (c : goal.In_ok-extend_from_slice-2) → c.extend_from_slice-2.new.self.items ≡ list_joined c.args.mode c.args.front.now c.args.back.now
 joined c =

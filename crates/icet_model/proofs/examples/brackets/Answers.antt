@@ -12,3 +12,6 @@ returns-clause-front c = refl
 pub returns-clause-nearer : goal.returns-clause-nearer
 unfolding Rattle.icet_model.specs.declared.bracket.Bracket.TheBlock.hidden-the_row-Bracket-0 denote.Hole.Carrier.hidden
 returns-clause-nearer c = refl
+
+pub returns-clause-three : goal.returns-clause-three
+returns-clause-three c = refl

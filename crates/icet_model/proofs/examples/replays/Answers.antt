@@ -9,3 +9,7 @@ returns-clause-in_order c = refl
 pub returns-clause-cut_short : goal.returns-clause-cut_short
 unfolding digits
 returns-clause-cut_short c = refl
+
+pub returns-clause-several_rounds : goal.returns-clause-several_rounds
+unfolding digits
+returns-clause-several_rounds c = refl

@@ -5,3 +5,6 @@ use Rattle.icet_model.proofs.examples.texts.Goals as goal
 pub returns-clause-line : goal.returns-clause-line
 unfolding digits
 returns-clause-line c = refl
+
+pub returns-clause-leading_zero : goal.returns-clause-leading_zero
+returns-clause-leading_zero c = refl

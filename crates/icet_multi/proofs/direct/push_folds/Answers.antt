@@ -1,5 +1,6 @@
 use Rattle.std.proofs.Common.{◌<◌, ◌∙◌, ◌++◌, List, [], ◌∷◌, ℕ, sym, subst, ap, take, get_or, length, arith}
 use Rattle.std.proofs.lemmas.List.{append_assoc}
+use Rattle.std.proofs.lemmas.Grind.{common_steps}
 use Rattle.icet_model.specs.declared.exchange.Op.TheVariants.{Join}
 use Rattle.icet_multi.specs.Direct.{fetch, folds}
 use Rattle.icet_multi.proofs.DirectSteps.{folds_more}
@@ -25,3 +26,6 @@ loop-i-preserved c =
           ∙ (ap (λ y. before ++ (folds t x (take i cs) ++ fetch t x 1 y ∷ Join 0 1 0 ∷ [])) q_is
           ∙ ap (λ z. before ++ z) (sym (folds_more t x cs i q c.loop-i.invariant.first within)))));
     }
+
+pub loop-i-init : goal.loop-i-init
+loop-i-init c = record { first = omega arith; ranks = grind (arith, common_steps); grown = grind (arith, common_steps) }

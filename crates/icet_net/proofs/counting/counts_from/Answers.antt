@@ -5,6 +5,9 @@ use Rattle.icet_net.specs.Counting.{sent_in}
 use Rattle.icet_net.proofs.Counted.{few_in_front, sent_more, peer_within}
 use Rattle.icet_net.proofs.counting.counts_from.Goals as goal
 
+pub count-requires-clause-peer : goal.count-requires-clause-peer
+count-requires-clause-peer c = rw c.counting.invariant.count (peer_within c.args.plan.now c.args.from c.counting.i c.exchange.result c.ranks-ranks.ensures.plan c.exchange.ensures)
+
 pub count-requires-clause-room : goal.count-requires-clause-room
 count-requires-clause-room c =
     let p = c.exchange.result.peer in

@@ -49,3 +49,9 @@ returns-clause-paired g c =
     let n : length c.sync_ports.new.outboxes ≡ c.sender.inside.outboxes.len = search rules in
     let k : length c.sync_ports.new.inboxes ≡ c.receiver.inside.inboxes.len = search rules in
     rw (written c.sender.inside.outboxes.len c.sync_ports.new.outboxes c.sender.inside.outboxes.items n, written c.receiver.inside.inboxes.len c.sync_ports.new.inboxes c.receiver.inside.inboxes.items k, ← c.sender.view_is, ← c.receiver.view_is) c.sync_ports.ensures.paired
+
+pub returns-clause-synced : goal.returns-clause-synced
+returns-clause-synced g c =
+    let n : length c.sync_ports.new.outboxes ≡ c.sender.inside.outboxes.len = search rules in
+    let k : length c.sync_ports.new.inboxes ≡ c.receiver.inside.inboxes.len = search rules in
+    rw (written c.sender.inside.outboxes.len c.sync_ports.new.outboxes c.sender.inside.outboxes.items n, written c.receiver.inside.inboxes.len c.sync_ports.new.inboxes c.receiver.inside.inboxes.items k, ← c.sender.view_is, ← c.receiver.view_is) c.sync_ports.ensures.synced

@@ -1,5 +1,6 @@
-use Rattle.std.proofs.Common.{◌≡◌, ℕ, ◌≤◌, List, length, map, take, ap, ◌∙◌, Option}
+use Rattle.std.proofs.Common.{◌≡◌, ℕ, ◌≤◌, List, length, map, take, ap, ◌∙◌, Option, arith}
 use Rattle.std.proofs.lemmas.List.{take_all}
+use Rattle.std.proofs.lemmas.Grind.{common_steps}
 use Rattle.icet_model.specs.declared.names.Rect.{Rect}
 use Rattle.icet_model.specs.Boxes.{box}
 use Rattle.icet_raster.specs.declared.shape.Shape.{Shape}
@@ -20,3 +21,6 @@ returns-clause-holds c = box_holds c.loop-shape.least (map drawing_of c.args.sha
 
 pub returns-clause-least : goal.returns-clause-least
 returns-clause-least c = box_least c.loop-shape.least (map drawing_of c.args.shapes.now) (at_end c.loop-shape.least c.args.shapes.now c.loop-shape.shape-index c.loop-shape.invariant c.loop-shape-test.false)
+
+pub loop-shape-preserved : goal.loop-shape-preserved
+loop-shape-preserved c = record { value = grind (arith, common_steps); area = grind (arith, common_steps) }

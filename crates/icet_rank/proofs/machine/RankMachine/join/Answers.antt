@@ -3,6 +3,12 @@ use Rattle.icet_rank.proofs.Now.{join_fits, named, next_place, join_done}
 use Rattle.icet_rank.proofs.Keeps.{written}
 use Rattle.icet_rank.proofs.machine.RankMachine.join.Goals as goal
 
+pub joined-requires-clause-front : goal.joined-requires-clause-front
+joined-requires-clause-front g c = let l = named c.self.invariant c.self.view_is c.requires.due in rw c.deref.ensures.value l.0
+
+pub joined-requires-clause-back : goal.joined-requires-clause-back
+joined-requires-clause-back g c = let l = named c.self.invariant c.self.view_is c.requires.due in rw c.deref.ensures.value l.1
+
 pub joined-requires-clause-fits : goal.joined-requires-clause-fits
 joined-requires-clause-fits g c = rw c.deref.ensures.value (join_fits c.self.invariant c.self.view_is c.requires.due)
 

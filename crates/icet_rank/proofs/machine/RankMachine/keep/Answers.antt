@@ -5,6 +5,11 @@ use Rattle.icet_rank.proofs.Now.{keep_filled, named, next_place, keep_done}
 use Rattle.icet_rank.proofs.Local.{list_at}
 use Rattle.icet_rank.proofs.machine.RankMachine.keep.Goals as goal
 
+pub index-requires : goal.index-requires
+index-requires g c =
+    let l : c.args.slot < length c.self.inside.slots.items = named c.self.invariant c.self.view_is c.requires.due in
+    grind (arith, l)
+
 pub unreachable-requires : goal.unreachable-requires
 unreachable-requires g c =
     let l : c.args.slot < length c.self.inside.slots.items = named c.self.invariant c.self.view_is c.requires.due in

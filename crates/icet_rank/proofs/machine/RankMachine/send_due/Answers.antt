@@ -71,3 +71,39 @@ returns-else-moved-clause-pairings g c =
     let p : length c.send-moved.new.ports ≡ c.self.inside.outboxes.len = search rules in
     let kept = rw c.deref_mut-2.ensures.value at c.send-moved.ensures.pairings in
     rw (written c.self.inside.outboxes.len c.send-moved.new.ports c.self.inside.outboxes.items p, ← c.self.view_is) (record { inboxes = record { same_peers = refl; same_pairings = refl }; outboxes = kept })
+
+pub returns-else-moved-clause-missed : goal.returns-else-moved-clause-missed
+returns-else-moved-clause-missed g c =
+    let p : length c.send-moved.new.ports ≡ c.self.inside.outboxes.len = search rules in
+    let missed = rw c.deref_mut-2.ensures.value at (c.send-moved.ensures.miss c.if-moved.false) in
+    rw (written c.self.inside.outboxes.len c.send-moved.new.ports c.self.inside.outboxes.items p, ← c.self.view_is) (λ _. missed)
+
+pub returns-else-moved-clause-same_slots : goal.returns-else-moved-clause-same_slots
+returns-else-moved-clause-same_slots g c =
+    let s : length c.send-moved.new.slots ≡ c.self.inside.slots.len = search rules in
+    let same = c.send-moved.ensures.back c.if-moved.false ∙ c.deref_mut.ensures.value in
+    rw (written c.self.inside.slots.len c.send-moved.new.slots c.self.inside.slots.items s, ← c.self.view_is) (λ _. same)
+
+pub returns-then-moved-clause-job : goal.returns-then-moved-clause-job
+returns-then-moved-clause-job g c = rw (← c.self.view_is) (record { number = refl; mode = refl; ops = refl; images = refl })
+
+pub returns-else-moved-clause-job : goal.returns-else-moved-clause-job
+returns-else-moved-clause-job g c = rw (← c.self.view_is) (record { number = refl; mode = refl; ops = refl; images = refl })
+
+pub returns-then-moved-clause-inboxes : goal.returns-then-moved-clause-inboxes
+returns-then-moved-clause-inboxes g c = rw (← c.self.view_is) refl
+
+pub returns-else-moved-clause-inboxes : goal.returns-else-moved-clause-inboxes
+returns-else-moved-clause-inboxes g c = rw (← c.self.view_is) refl
+
+pub returns-else-moved-clause-same_place : goal.returns-else-moved-clause-same_place
+returns-else-moved-clause-same_place g c = λ _. rw (← c.self.view_is) refl
+
+pub returns-else-moved-clause-same_counter : goal.returns-else-moved-clause-same_counter
+returns-else-moved-clause-same_counter g c = λ _. rw (← c.self.view_is) refl
+
+pub returns-then-moved-clause-place : goal.returns-then-moved-clause-place
+returns-then-moved-clause-place g c = λ _. rw (← c.self.view_is) refl
+
+pub returns-then-moved-clause-counter : goal.returns-then-moved-clause-counter
+returns-then-moved-clause-counter g c = λ _. rw (← c.self.view_is) refl

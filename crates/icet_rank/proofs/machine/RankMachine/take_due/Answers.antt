@@ -6,6 +6,9 @@ use Rattle.icet_rank.proofs.machine.RankMachine.take_due.Goals as goal
 pub place_of-at-requires : goal.place_of-at-requires
 place_of-at-requires g c = rw c.deref.ensures.value (take_peer c.self.invariant c.self.view_is c.requires.due c.requires.kind)
 
+pub take_at-requires-clause-there : goal.take_at-requires-clause-there
+take_at-requires-clause-there g c κs within = rw (c.deref_mut.ensures.value, ← c.deref.ensures.value) c.place_of-at.ensures.there
+
 pub take_at-requires-clause-room : goal.take_at-requires-clause-room
 take_at-requires-clause-room g c κs within = rw c.deref_mut.ensures.value (take_room c.self.invariant c.self.view_is c.requires.due c.requires.kind)
 
@@ -53,3 +56,42 @@ returns-in-Some-clause-pairings g c =
     let p : length c.take_at.new.ports ≡ c.self.inside.inboxes.len = search rules in
     let kept = rw c.deref_mut.ensures.value at c.take_at.ensures.pairings in
     rw (written c.self.inside.inboxes.len c.take_at.new.ports c.self.inside.inboxes.items p, ← c.self.view_is) (record { inboxes = kept; outboxes = record { same_peers = refl; same_pairings = refl } })
+
+pub returns-in-None-clause-missed : goal.returns-in-None-clause-missed
+returns-in-None-clause-missed g c =
+    let p : length c.take_at.new.ports ≡ c.self.inside.inboxes.len = search rules in
+    let missed = rw (c.in-None.is, c.deref_mut.ensures.value) at c.take_at.ensures.none in
+    rw (written c.self.inside.inboxes.len c.take_at.new.ports c.self.inside.inboxes.items p, ← c.self.view_is) (λ _. missed)
+
+pub returns-in-Some-clause-moved : goal.returns-in-Some-clause-moved
+returns-in-Some-clause-moved g c =
+    let p : length c.take_at.new.ports ≡ c.self.inside.inboxes.len = search rules in
+    let some = rw (c.in-Some.is, c.deref_mut.ensures.value) at c.take_at.ensures.some in
+    rw (written c.self.inside.inboxes.len c.take_at.new.ports c.self.inside.inboxes.items p, ← c.self.view_is) (λ _. record { message = c.in-Some.message; carried = some })
+
+pub returns-in-None-clause-job : goal.returns-in-None-clause-job
+returns-in-None-clause-job g c = rw (← c.self.view_is) (record { number = refl; mode = refl; ops = refl; images = refl })
+
+pub returns-in-Some-clause-job : goal.returns-in-Some-clause-job
+returns-in-Some-clause-job g c = rw (← c.self.view_is) (record { number = refl; mode = refl; ops = refl; images = refl })
+
+pub returns-in-None-clause-outboxes : goal.returns-in-None-clause-outboxes
+returns-in-None-clause-outboxes g c = rw (← c.self.view_is) refl
+
+pub returns-in-Some-clause-outboxes : goal.returns-in-Some-clause-outboxes
+returns-in-Some-clause-outboxes g c = rw (← c.self.view_is) refl
+
+pub returns-in-None-clause-same_place : goal.returns-in-None-clause-same_place
+returns-in-None-clause-same_place g c = λ _. rw (← c.self.view_is) refl
+
+pub returns-in-None-clause-same_counter : goal.returns-in-None-clause-same_counter
+returns-in-None-clause-same_counter g c = λ _. rw (← c.self.view_is) refl
+
+pub returns-in-None-clause-same_slots : goal.returns-in-None-clause-same_slots
+returns-in-None-clause-same_slots g c = λ _. rw (← c.self.view_is) refl
+
+pub returns-in-Some-clause-place : goal.returns-in-Some-clause-place
+returns-in-Some-clause-place g c = λ _. rw (← c.self.view_is) refl
+
+pub returns-in-Some-clause-counter : goal.returns-in-Some-clause-counter
+returns-in-Some-clause-counter g c = λ _. rw (← c.self.view_is) refl

@@ -1,0 +1,6 @@
+//! The tests of whole runs over memory. They are no part of `icet_tests`, whose tests needn't wait for the
+//! proof of `icet_cli`.
+#![tactic(auto)]
+
+#[cfg(test)]
+mod runs;
