@@ -6,7 +6,8 @@ ghost use Rattle.icet_cli.specs.Notes.{HasNoted};
 ghost use Rattle.icet_cli.specs.Outcome.{RunsTo};
 
 use icet_base::{PlainGate, Sink, Source, StdSink, StdSource};
-use icet_cli::notes::note;
+use icet_cli::fault::Fault;
+use icet_cli::notes::note_fault;
 use icet_cli::{Status, run};
 use icet_ring::{MemWires, Wires};
 use std::alloc::{AllocError, Global};
@@ -64,7 +65,7 @@ fn refuse<N: Sink>(refusal: Refusal, notes: &mut N) -> Status
 {
     match refusal {
         Refusal::NotUnicode => {
-            note(notes, b"icet: words refused\n");
+            note_fault(notes, Fault::Words);
             Status::WordsRefused
         }
         Refusal::NoMemory => Status::NoMemory,

@@ -1,5 +1,6 @@
 pub mod Commands
 pub mod Endings
+pub mod Faults
 pub mod Notes
 pub mod Outcome
 pub mod Reading

@@ -3,6 +3,7 @@
 
 pub mod command;
 pub mod doing;
+pub mod fault;
 pub mod notes;
 pub mod running;
 pub mod source;

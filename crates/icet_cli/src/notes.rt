@@ -1,22 +1,48 @@
-ghost use Rattle.std.specs.Prelude.{◌≡◌, ◌++◌, codes, decimal};
+ghost use Rattle.std.specs.Prelude.{◌++◌, codes, decimal};
 ghost use Rattle.icet_model.specs.Faults.{HasCause};
-ghost use Rattle.icet_model.specs.FaultLines.{text_line};
-ghost use Rattle.icet_model.specs.Scene.{Text};
 ghost use Rattle.icet_base.specs.PenText.{Puts};
-ghost use Rattle.icet_scene.specs.Readings.{IsFaultOf};
 ghost use Rattle.icet_cli.specs.Notes.{HasNoted};
+ghost use Rattle.icet_cli.specs.Faults.{line_of};
+ghost use Rattle.icet_cli.specs.declared.fault.Fault.TheVariants.{Scene};
 
+use crate::fault::Fault;
 use icet_base::{Pen, Sink, WriteFault};
+use icet_scene::fault::SceneFault;
 
-/// Notes a fault's line. A fault of the notes themselves is kept to itself.
-pub fn note<N: Sink>(notes: &mut N, line: &[u8])
+/// Notes the line of a fault. A fault of the notes themselves is kept to itself.
+pub fn note_fault<N: Sink>(notes: &mut N, fault: Fault)
+    ensures { HasNoted (N.written notes.old) (N.written notes.new) (N.faults notes.old) (N.faults notes.new) (line_of fault) }
+{
+    match fault {
+        Fault::Words => note(notes, b"icet: words refused\n"),
+        Fault::Read => note(notes, b"icet: read failed\n"),
+        Fault::Scene(fault) => note_scene_fault(notes, fault),
+        Fault::Write => note(notes, b"icet: write failed\n"),
+        Fault::NoMemory => note(notes, b"icet: no memory\n"),
+    }
+}
+
+/// Notes why a text is no scene.
+fn note_scene_fault<N: Sink>(notes: &mut N, fault: SceneFault)
+    ensures { HasNoted (N.written notes.old) (N.written notes.new) (N.faults notes.old) (N.faults notes.new) (line_of (Scene fault)) }
+{
+    match fault {
+        SceneFault::TooLong => note(notes, b"icet: scene longer than 67108864 bytes\n"),
+        SceneFault::NotBuilt(line) => note_line(notes, line),
+        SceneFault::TooLarge => note(notes, b"icet: scene too large\n"),
+        SceneFault::NoMemory => note(notes, b"icet: no memory\n"),
+    }
+}
+
+/// Notes a line.
+fn note<N: Sink>(notes: &mut N, line: &[u8])
     ensures { HasNoted (N.written notes.old) (N.written notes.new) (N.faults notes.old) (N.faults notes.new) line.now }
 {
     let _ = write_line(notes, line);
 }
 
 /// Notes that a line of the scene isn't the one that has to stand there.
-pub fn note_line<N: Sink>(notes: &mut N, number: u32)
+fn note_line<N: Sink>(notes: &mut N, number: u32)
     ensures { HasNoted (N.written notes.old) (N.written notes.new) (N.faults notes.old) (N.faults notes.new) ((codes "icet: line " ++ decimal number) ++ codes ": not built yet\n") }
 {
     let _ = write_number(notes, b"icet: line ", number, b": not built yet\n");

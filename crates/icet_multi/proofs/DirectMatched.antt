@@ -4,6 +4,7 @@ use Rattle.std.specs.Prelude.{◌==◌, ◌&&◌, ◌≢◌, not}
 use Rattle.std.specs.List.{AllByRecursion, filter}
 use Rattle.std.proofs.lemmas.List.{append-nil, map-append}
 use Rattle.std.proofs.lemmas.Bool.{eqb-false}
+use Rattle.std.proofs.Math.Bool.{and-true, and-false}
 use Rattle.icet_model.specs.declared.exchange.Exchange.{Exchange}
 use Rattle.icet_model.specs.declared.exchange.Op.TheVariants.{Load, Swap, Keep}
 use Rattle.icet_model.specs.Exchange.{key, of_op, exchanges, sends_to, takes_from, Follows, IsRising, Heading, heading}
@@ -12,12 +13,13 @@ use Rattle.icet_plan.proofs.Lists.{filter-append, all_weaker}
 use Rattle.icet_plan.proofs.LocalRuns.{exchanges-append}
 use Rattle.icet_plan.proofs.Segments.{all_append, AreWithin, rising_append}
 use Rattle.icet_plan.proofs.FlowIsOne.{AreMatched}
-use Rattle.icet_multi.specs.Direct.{TileView, has, hands_in, send_of, take_of, sends_of, takes_in, takes_of, direct_exchanges, gift, fetch, joins, folds, showing, gifts, showings, direct_program, IsTile}
-use Rattle.icet_multi.proofs.Distinct.{Apart}
+use Rattle.icet_multi.specs.Direct.{TileView, by_tile, has, hands_in, send_of, take_of, sends_for, sends_of, takes_in, takes_for, takes_of, direct_exchanges, gift, fetch, joins, folds, showing, gifts, showings, direct_program, IsTile}
+use Rattle.icet_multi.proofs.ByTile.{always, all_by_tile, none_by_tile, image_by_tile}
+use Rattle.icet_multi.proofs.Distinct.{Apart, EachOnce}
 use Rattle.icet_multi.proofs.Picked.{entry, entries, picked}
 
 -- the exchanges of the programs
-gift_exchanges : (t : ℕ) (x : TileView) (r : ℕ) → exchanges (gift t x r) ≡ cond (hands_in x r) (send_of t x ∷ []) []
+gift_exchanges : (t : ℕ) (x : TileView) (r : ℕ) → exchanges (gift t x r) ≡ sends_for t x r
 gift_exchanges t x r = go (hands_in x r)
   where
     go : (b : Bool) → exchanges (cond b (Load t 0 ∷ Swap (send_of t x) 0 ∷ []) []) ≡ cond b (send_of t x ∷ []) []
@@ -25,8 +27,7 @@ gift_exchanges t x r = go (hands_in x r)
     go false = refl
 
 gifts_exchanges : (t : ℕ) (xs : List TileView) (r : ℕ) → exchanges (gifts t xs r) ≡ sends_of t xs r
-gifts_exchanges t [] r = refl
-gifts_exchanges t (x ∷ xs) r = exchanges-append (gift t x r) (gifts (suc t) xs r) ∙ (ap (λ z. z ++ exchanges (gifts (suc t) xs r)) (gift_exchanges t x r) ∙ ap (λ z. cond (hands_in x r) (send_of t x ∷ []) [] ++ z) (gifts_exchanges (suc t) xs r))
+gifts_exchanges t xs r = image_by_tile exchanges refl exchanges-append (λ n x. gift n x r) (λ n x. sends_for n x r) t xs (always (λ x. (n : ℕ) → exchanges (gift n x r) ≡ sends_for n x r) (λ x n. gift_exchanges n x r) xs)
 
 fetch_exchanges : (t : ℕ) (x : TileView) (slot c : ℕ) → of_op (fetch t x slot c) ≡ cond (c == x.display) [] (take_of t x c ∷ [])
 fetch_exchanges t x slot c = go (c == x.display)
@@ -43,7 +44,7 @@ folds_exchanges : (t : ℕ) (x : TileView) (cs : List ℕ) → exchanges (folds 
 folds_exchanges t x [] = refl
 folds_exchanges t x (c ∷ cs) = ap (λ z. z ++ exchanges (joins t x cs)) (fetch_exchanges t x 0 c) ∙ ap (λ z. cond (c == x.display) [] (take_of t x c ∷ []) ++ z) (joins_exchanges t x cs)
 
-showing_exchanges : (t : ℕ) (x : TileView) (r : ℕ) → exchanges (showing t x r) ≡ cond (x.display == r) (takes_in t x x.contributors) []
+showing_exchanges : (t : ℕ) (x : TileView) (r : ℕ) → exchanges (showing t x r) ≡ takes_for t x r
 showing_exchanges t x r = go (x.display == r)
   where
     go : (b : Bool) → exchanges (cond b (folds t x x.contributors ++ Keep 0 ∷ []) []) ≡ cond b (takes_in t x x.contributors) []
@@ -51,20 +52,18 @@ showing_exchanges t x r = go (x.display == r)
     go false = refl
 
 showings_exchanges : (t : ℕ) (xs : List TileView) (r : ℕ) → exchanges (showings t xs r) ≡ takes_of t xs r
-showings_exchanges t [] r = refl
-showings_exchanges t (x ∷ xs) r = exchanges-append (showing t x r) (showings (suc t) xs r) ∙ (ap (λ z. z ++ exchanges (showings (suc t) xs r)) (showing_exchanges t x r) ∙ ap (λ z. cond (x.display == r) (takes_in t x x.contributors) [] ++ z) (showings_exchanges (suc t) xs r))
+showings_exchanges t xs r = image_by_tile exchanges refl exchanges-append (λ n x. showing n x r) (λ n x. takes_for n x r) t xs (always (λ x. (n : ℕ) → exchanges (showing n x r) ≡ takes_for n x r) (λ x n. showing_exchanges n x r) xs)
 
 pub program_exchanges : (xs : List TileView) (r : ℕ) → exchanges (direct_program xs r) ≡ direct_exchanges xs r
 program_exchanges xs r = exchanges-append (gifts 0 xs r) (showings 0 xs r) ∙ (ap (λ z. z ++ exchanges (showings 0 xs r)) (gifts_exchanges 0 xs r) ∙ ap (λ z. sends_of 0 xs r ++ z) (showings_exchanges 0 xs r))
 
 -- what holds of each send and of each take
 all_sends : (P : Exchange → Type 0) (t : ℕ) (xs : List TileView) (r : ℕ) → AllByRecursion (λ x. (u : ℕ) → hands_in x r ≡ true → P (send_of u x)) xs → AllByRecursion P (sends_of t xs r)
-all_sends P t [] r h = tt
-all_sends P t (x ∷ xs) r h = all_append P (cond (hands_in x r) (send_of t x ∷ []) []) (sends_of (suc t) xs r) (go (hands_in x r) refl) (all_sends P (suc t) xs r h.1)
+all_sends P t xs r h = all_by_tile P (λ n x. sends_for n x r) t xs (all_weaker (λ x. (u : ℕ) → hands_in x r ≡ true → P (send_of u x)) (λ x. (n : ℕ) → AllByRecursion P (sends_for n x r)) (λ x f n. go n x (f n) (hands_in x r) refl) xs h)
   where
-    go : (b : Bool) → hands_in x r ≡ b → AllByRecursion P (cond b (send_of t x ∷ []) [])
-    go true e = (h.0 t e, tt)
-    go false e = tt
+    go : (n : ℕ) (x : TileView) → (hands_in x r ≡ true → P (send_of n x)) → (b : Bool) → hands_in x r ≡ b → AllByRecursion P (cond b (send_of n x ∷ []) [])
+    go n x f true e = (f e, tt)
+    go n x f false e = tt
 
 all_takes_in : (P : Exchange → Type 0) (t : ℕ) (x : TileView) (cs : List ℕ) → AllByRecursion (λ c. c ≢ x.display → P (take_of t x c)) cs → AllByRecursion P (takes_in t x cs)
 all_takes_in P t x [] h = tt
@@ -75,16 +74,11 @@ all_takes_in P t x (c ∷ cs) h = all_append P (cond (c == x.display) [] (take_o
     go false e = (h.0 (eqb-false c x.display e), tt)
 
 all_takes : (P : Exchange → Type 0) (t : ℕ) (xs : List TileView) (r : ℕ) → AllByRecursion (λ x. (u : ℕ) → x.display ≡ r → AllByRecursion (λ c. c ≢ x.display → P (take_of u x c)) x.contributors) xs → AllByRecursion P (takes_of t xs r)
-all_takes P t [] r h = tt
-all_takes P t (x ∷ xs) r h = all_append P (cond (x.display == r) (takes_in t x x.contributors) []) (takes_of (suc t) xs r) (go (x.display == r) refl) (all_takes P (suc t) xs r h.1)
+all_takes P t xs r h = all_by_tile P (λ n x. takes_for n x r) t xs (all_weaker (λ x. (u : ℕ) → x.display ≡ r → AllByRecursion (λ c. c ≢ x.display → P (take_of u x c)) x.contributors) (λ x. (n : ℕ) → AllByRecursion P (takes_for n x r)) (λ x f n. go n x (f n) (x.display == r) refl) xs h)
   where
-    go : (b : Bool) → (x.display == r) ≡ b → AllByRecursion P (cond b (takes_in t x x.contributors) [])
-    go true e = all_takes_in P t x x.contributors (h.0 t (eqb-true x.display r e))
-    go false e = tt
-
-always : {X : Type 0} (P : X → Type 0) → ((x : X) → P x) → (xs : List X) → AllByRecursion P xs
-always P f [] = tt
-always P f (x ∷ xs) = (f x, always P f xs)
+    go : (n : ℕ) (x : TileView) → (x.display ≡ r → AllByRecursion (λ c. c ≢ x.display → P (take_of n x c)) x.contributors) → (b : Bool) → (x.display == r) ≡ b → AllByRecursion P (cond b (takes_in n x x.contributors) [])
+    go n x f true e = all_takes_in P n x x.contributors (f (eqb-true x.display r e))
+    go n x f false e = tt
 
 -- exchanges of one key rise where all peers differ
 sends_within : (t : ℕ) (xs : List TileView) (r : ℕ) → AreWithin 0 1 (sends_of t xs r)
@@ -122,11 +116,7 @@ takes_in_rise t x (c ∷ cs) h =
 
 -- a rank shows one tile at most
 none_shown : (t : ℕ) (xs : List TileView) (r : ℕ) → AllByRecursion (λ y. r ≢ y.display) xs → takes_of t xs r ≡ []
-none_shown t [] r h = refl
-none_shown t (x ∷ xs) r h = ap (λ b. cond b (takes_in t x x.contributors) [] ++ takes_of (suc t) xs r) (ne_eqb x.display r (λ e. h.0 (sym e))) ∙ none_shown (suc t) xs r h.1
-
-abbrev pub EachOnce : List TileView → Type 0
-EachOnce xs = AllByRecursion (λ x. Apart (λ a b. a ≢ b) x.contributors) xs
+none_shown t xs r h = none_by_tile (λ n x. takes_for n x r) t xs (all_weaker (λ y. r ≢ y.display) (λ y. (n : ℕ) → takes_for n y r ≡ []) (λ y other n. ap (λ b. cond b (takes_in n y y.contributors) []) (ne_eqb y.display r (λ e. other (sym e)))) xs h)
 
 takes_rise : (t : ℕ) (xs : List TileView) (r : ℕ) → Apart (λ x y. x.display ≢ y.display) xs → EachOnce xs → IsRising (takes_of t xs r)
 takes_rise t [] r h once = tt
@@ -146,9 +136,17 @@ direct_rise xs r h once = rising_append 1 0 2 (sends_of 0 xs r) (takes_of 0 xs r
 abbrev heading_of : ℕ → TileView → Heading
 heading_of t x = record { round = 0; tile = t; lo = 0; hi = x.size }
 
+abbrev headings_for : ℕ → TileView → ℕ → ℕ → List Heading
+headings_for t x q r = cond ((x.display == r) && hands_in x q) (heading_of t x ∷ []) []
+
 abbrev headings : ℕ → List TileView → ℕ → ℕ → List Heading
-headings t [] q r = []
-headings t (x ∷ xs) q r = cond ((x.display == r) && hands_in x q) (heading_of t x ∷ []) [] ++ headings (suc t) xs q r
+headings t xs q r = by_tile (λ n x. headings_for n x q r) t xs
+
+abbrev no_heading : ℕ → TileView → List Heading
+no_heading n x = []
+
+nothing : (t : ℕ) (xs : List TileView) → by_tile no_heading t xs ≡ []
+nothing t xs = none_by_tile no_heading t xs (always (λ x. (n : ℕ) → no_heading n x ≡ []) (λ x n. refl) xs)
 
 abbrev seen : (Exchange → Bool) → List Exchange → List Heading
 seen p es = map heading (filter p es)
@@ -157,32 +155,22 @@ seen_append : (p : Exchange → Bool) (xs ys : List Exchange) → seen p (xs ++ 
 seen_append p xs ys = ap (map heading) (filter-append p xs ys) ∙ map-append heading (filter p xs) (filter p ys)
 
 sends_seen : (t : ℕ) (xs : List TileView) (q r : ℕ) → seen (sends_to r) (sends_of t xs q) ≡ headings t xs q r
-sends_seen t [] q r = refl
-sends_seen t (x ∷ xs) q r = seen_append (sends_to r) (cond (hands_in x q) (send_of t x ∷ []) []) (sends_of (suc t) xs q) ∙ (ap (λ z. z ++ seen (sends_to r) (sends_of (suc t) xs q)) (go (hands_in x q) (x.display == r)) ∙ ap (λ z. cond ((x.display == r) && hands_in x q) (heading_of t x ∷ []) [] ++ z) (sends_seen (suc t) xs q r))
+sends_seen t xs q r = image_by_tile (seen (sends_to r)) refl (seen_append (sends_to r)) (λ n x. sends_for n x q) (λ n x. headings_for n x q r) t xs (always (λ x. (n : ℕ) → seen (sends_to r) (sends_for n x q) ≡ headings_for n x q r) (λ x n. go n x (hands_in x q)) xs)
   where
-    at : (d : Bool) → map heading (cond d (send_of t x ∷ []) []) ≡ cond d (heading_of t x ∷ []) []
-    at true = refl
-    at false = refl
+    at : (n : ℕ) (x : TileView) (d : Bool) → map heading (cond d (send_of n x ∷ []) []) ≡ cond d (heading_of n x ∷ []) []
+    at n x true = refl
+    at n x false = refl
 
-    both : (d : Bool) → (d && true) ≡ d
-    both true = refl
-    both false = refl
-
-    neither : (d : Bool) → (d && false) ≡ false
-    neither true = refl
-    neither false = refl
-
-    go : (b d : Bool) → seen (sends_to r) (cond b (send_of t x ∷ []) []) ≡ cond ((x.display == r) && b) (heading_of t x ∷ []) []
-    go true d = at (x.display == r) ∙ ap (λ z. cond z (heading_of t x ∷ []) []) (sym (both (x.display == r)))
-    go false d = ap (λ z. cond z (heading_of t x ∷ []) []) (sym (neither (x.display == r)))
+    go : (n : ℕ) (x : TileView) (b : Bool) → seen (sends_to r) (cond b (send_of n x ∷ []) []) ≡ cond ((x.display == r) && b) (heading_of n x ∷ []) []
+    go n x true = at n x (x.display == r) ∙ ap (λ z. cond z (heading_of n x ∷ []) []) (sym (and-true (x.display == r)))
+    go n x false = ap (λ z. cond z (heading_of n x ∷ []) []) (sym (and-false (x.display == r)))
 
 no_takes : (t : ℕ) (xs : List TileView) (q r : ℕ) → seen (takes_from q) (sends_of t xs r) ≡ []
-no_takes t [] q r = refl
-no_takes t (x ∷ xs) q r = seen_append (takes_from q) (cond (hands_in x r) (send_of t x ∷ []) []) (sends_of (suc t) xs r) ∙ (ap (λ z. z ++ seen (takes_from q) (sends_of (suc t) xs r)) (go (hands_in x r)) ∙ no_takes (suc t) xs q r)
+no_takes t xs q r = image_by_tile (seen (takes_from q)) refl (seen_append (takes_from q)) (λ n x. sends_for n x r) no_heading t xs (always (λ x. (n : ℕ) → seen (takes_from q) (sends_for n x r) ≡ []) (λ x n. go n x (hands_in x r)) xs) ∙ nothing t xs
   where
-    go : (b : Bool) → seen (takes_from q) (cond b (send_of t x ∷ []) []) ≡ []
-    go true = refl
-    go false = refl
+    go : (n : ℕ) (x : TileView) (b : Bool) → seen (takes_from q) (cond b (send_of n x ∷ []) []) ≡ []
+    go n x true = refl
+    go n x false = refl
 
 no_sends_in : (t : ℕ) (x : TileView) (cs : List ℕ) (r : ℕ) → seen (sends_to r) (takes_in t x cs) ≡ []
 no_sends_in t x [] r = refl
@@ -193,12 +181,11 @@ no_sends_in t x (c ∷ cs) r = seen_append (sends_to r) (cond (c == x.display) [
     go false = refl
 
 no_sends : (t : ℕ) (xs : List TileView) (q r : ℕ) → seen (sends_to r) (takes_of t xs q) ≡ []
-no_sends t [] q r = refl
-no_sends t (x ∷ xs) q r = seen_append (sends_to r) (cond (x.display == q) (takes_in t x x.contributors) []) (takes_of (suc t) xs q) ∙ (ap (λ z. z ++ seen (sends_to r) (takes_of (suc t) xs q)) (go (x.display == q)) ∙ no_sends (suc t) xs q r)
+no_sends t xs q r = image_by_tile (seen (sends_to r)) refl (seen_append (sends_to r)) (λ n x. takes_for n x q) no_heading t xs (always (λ x. (n : ℕ) → seen (sends_to r) (takes_for n x q) ≡ []) (λ x n. go n x (x.display == q)) xs) ∙ nothing t xs
   where
-    go : (b : Bool) → seen (sends_to r) (cond b (takes_in t x x.contributors) []) ≡ []
-    go true = no_sends_in t x x.contributors r
-    go false = refl
+    go : (n : ℕ) (x : TileView) (b : Bool) → seen (sends_to r) (cond b (takes_in n x x.contributors) []) ≡ []
+    go n x true = no_sends_in n x x.contributors r
+    go n x false = refl
 
 takes_in_seen : (t : ℕ) (x : TileView) (cs : List ℕ) (q : ℕ) → seen (takes_from q) (takes_in t x cs) ≡ entries x.display (λ c. heading_of t x) q cs
 takes_in_seen t x [] q = refl
@@ -213,12 +200,11 @@ takes_in_seen t x (c ∷ cs) q = seen_append (takes_from q) (cond (c == x.displa
     go false = at (c == q)
 
 takes_seen : (t : ℕ) (xs : List TileView) (q r : ℕ) → EachOnce xs → seen (takes_from q) (takes_of t xs r) ≡ headings t xs q r
-takes_seen t [] q r once = refl
-takes_seen t (x ∷ xs) q r once = seen_append (takes_from q) (cond (x.display == r) (takes_in t x x.contributors) []) (takes_of (suc t) xs r) ∙ (ap (λ z. z ++ seen (takes_from q) (takes_of (suc t) xs r)) (go (x.display == r)) ∙ ap (λ z. cond ((x.display == r) && hands_in x q) (heading_of t x ∷ []) [] ++ z) (takes_seen (suc t) xs q r once.1))
+takes_seen t xs q r once = image_by_tile (seen (takes_from q)) refl (seen_append (takes_from q)) (λ n x. takes_for n x r) (λ n x. headings_for n x q r) t xs (all_weaker (λ x. Apart (λ a b. a ≢ b) x.contributors) (λ x. (n : ℕ) → seen (takes_from q) (takes_for n x r) ≡ headings_for n x q r) (λ x o n. go n x o (x.display == r)) xs once)
   where
-    go : (b : Bool) → seen (takes_from q) (cond b (takes_in t x x.contributors) []) ≡ cond (b && hands_in x q) (heading_of t x ∷ []) []
-    go true = takes_in_seen t x x.contributors q ∙ picked x.display (λ c. heading_of t x) q x.contributors once.0
-    go false = refl
+    go : (n : ℕ) (x : TileView) → Apart (λ a b. a ≢ b) x.contributors → (b : Bool) → seen (takes_from q) (cond b (takes_in n x x.contributors) []) ≡ cond (b && hands_in x q) (heading_of n x ∷ []) []
+    go n x o true = takes_in_seen n x x.contributors q ∙ picked x.display (λ c. heading_of n x) q x.contributors o
+    go n x o false = refl
 
 direct_pairs : (xs : List TileView) (q r : ℕ) → EachOnce xs → seen (sends_to r) (direct_exchanges xs q) ≡ seen (takes_from q) (direct_exchanges xs r)
 direct_pairs xs q r once =

@@ -14,11 +14,12 @@ use Rattle.icet_plan.proofs.FlowIsOne.{AreMatched}
 use Rattle.icet_plan.proofs.Segments.{Does}
 use Rattle.icet_plan.proofs.PlanFlows.{of_program}
 use Rattle.icet_plan.proofs.Assemble.{DoesAll, plan_matched, plan_flow, plan_sound}
-use Rattle.icet_multi.specs.Direct.{TileView, tile_bracket, direct_messages, send_of, folds, gifts, showings, direct_program, direct_plan, IsTile, AreTiles, IsDirect}
-use Rattle.icet_multi.proofs.Distinct.{Apart, apart_from_pairs, has_none}
+use Rattle.icet_multi.specs.Direct.{TileView, tile_bracket, direct_messages, send_of, folds, gift, gifts, showing, showings, direct_program, direct_plan, IsTile, AreTiles, IsDirect}
+use Rattle.icet_multi.proofs.ByTile.{none_by_tile}
+use Rattle.icet_multi.proofs.Distinct.{Apart, EachOnce, apart_from_pairs, has_none}
 use Rattle.icet_multi.proofs.OnTiles.{all_on}
 use Rattle.icet_multi.proofs.DirectRuns.{kept_from, direct_runs}
-use Rattle.icet_multi.proofs.DirectMatched.{EachOnce, program_exchanges, direct_matched, direct_peers}
+use Rattle.icet_multi.proofs.DirectMatched.{program_exchanges, direct_matched, direct_peers}
 use Rattle.icet_multi.proofs.DirectKept.{kept_once, kept_carries}
 
 get_listed : {V : Type 0} (f : ℕ → V) (d : V) (n first k : ℕ) → k < n → get_or (map f (range_with_len first n)) k d ≡ f (first + k)
@@ -28,16 +29,14 @@ get_listed f d (suc n) first (suc k) l = get_listed f d n (first + 1) k (omega a
 
 -- a rank beyond those of the plan has nothing to do
 no_gifts : (n t : ℕ) (xs : List TileView) (r : ℕ) → n ≤ r → AllByRecursion (IsTile n) xs → gifts t xs r ≡ []
-no_gifts n t [] r l h = refl
-no_gifts n t (x ∷ xs) r l h =
-    let away = has_none r x.contributors (all_weaker (λ c. c < n) (λ c. r ≢ c) (λ c b e. absurd (omega (arith, b, l, e))) x.contributors h.0.contributors) in
-    ap (λ b. cond (b && not (r == x.display)) (Load t 0 ∷ Swap (send_of t x) 0 ∷ []) [] ++ gifts (suc t) xs r) away ∙ no_gifts n (suc t) xs r l h.1
+no_gifts n t xs r l h = none_by_tile (λ m x. gift m x r) t xs (all_weaker (IsTile n) (λ x. (m : ℕ) → gift m x r ≡ []) (λ x i m.
+    let away = has_none r x.contributors (all_weaker (λ c. c < n) (λ c. r ≢ c) (λ c b e. absurd (omega (arith, b, l, e))) x.contributors i.contributors) in
+    ap (λ b. cond (b && not (r == x.display)) (Load m 0 ∷ Swap (send_of m x) 0 ∷ []) []) away) xs h)
 
 no_showings : (n t : ℕ) (xs : List TileView) (r : ℕ) → n ≤ r → AllByRecursion (IsTile n) xs → showings t xs r ≡ []
-no_showings n t [] r l h = refl
-no_showings n t (x ∷ xs) r l h =
-    let d = h.0.display in
-    ap (λ b. cond b (folds t x x.contributors ++ Keep 0 ∷ []) [] ++ showings (suc t) xs r) (ne_eqb x.display r (λ e. absurd (omega (arith, d, l, e)))) ∙ no_showings n (suc t) xs r l h.1
+no_showings n t xs r l h = none_by_tile (λ m x. showing m x r) t xs (all_weaker (IsTile n) (λ x. (m : ℕ) → showing m x r ≡ []) (λ x i m.
+    let d = i.display in
+    ap (λ b. cond b (folds m x x.contributors ++ Keep 0 ∷ []) []) (ne_eqb x.display r (λ e. absurd (omega (arith, d, l, e))))) xs h)
 
 record TileAt (xs : List TileView) (k : ℕ) : Type 0 where
   tile : TileView

@@ -1,8 +1,8 @@
 -- Each rank's direct program sends, takes and keeps what is said.
 use Rattle.std.proofs.Common.{◌≡◌, ℕ, suc, Bool, true, false, cond, List, [], ◌∷◌, ◌++◌, map, refl, sym, ap, ◌∙◌, subst, arith, eqb-true, Option, Some, None}
 use Rattle.std.specs.Prelude.{◌==◌, ◌&&◌, ◌≢◌}
-use Rattle.std.specs.List.{AllByRecursion}
 use Rattle.std.proofs.lemmas.List.{append-nil}
+use Rattle.std.proofs.Math.Bool.{and-true, and-false}
 use mathlib.Core.Path.{fun_ext}
 use Rattle.icet_model.specs.declared.bracket.Bracket.{Bracket}
 use Rattle.icet_model.specs.declared.bracket.Bracket.TheVariants.{Empty, Leaf, Pair}
@@ -14,8 +14,8 @@ use Rattle.icet_model.specs.Fit.{Tiles}
 use Rattle.icet_model.specs.Plan.{bracket_carrier}
 use Rattle.icet_plan.proofs.Segments.{Does, does_nothing, does_both}
 use Rattle.icet_plan.proofs.SingleSteps.{does_as, load_does, blank_does, join_does, keep_does, give_does, take_does}
-use Rattle.icet_multi.specs.Direct.{TileView, hands_in, tile_bracket, image_message, messages_from, direct_messages, send_of, take_of, gift, fetch, joins, folds, showing, gifts, showings, direct_program}
-use Rattle.icet_multi.proofs.Distinct.{Apart}
+use Rattle.icet_multi.specs.Direct.{TileView, by_tile, hands_in, tile_bracket, image_message, messages_for, messages_from, direct_messages, send_of, take_of, gift, fetch, joins, folds, showing, gifts, showings, direct_program}
+use Rattle.icet_multi.proofs.Distinct.{Apart, EachOnce}
 use Rattle.icet_multi.proofs.Picked.{entry, entries, picked}
 use Rattle.icet_multi.proofs.OnTiles.{IsOn, AreOn}
 
@@ -31,8 +31,7 @@ abbrev pub kept_of : ℕ → TileView → ℕ → List (Piece Bracket)
 kept_of t x r = cond (x.display == r) (piece_of t x (tile_bracket x) ∷ []) []
 
 abbrev pub kept_from : ℕ → List TileView → ℕ → List (Piece Bracket)
-kept_from t [] r = []
-kept_from t (x ∷ xs) r = kept_of t x r ++ kept_from (suc t) xs r
+kept_from t xs r = by_tile (λ n x. kept_of n x r) t xs
 
 abbrev pub nothing : ℕ → List (MessageView Bracket)
 nothing q = []
@@ -55,19 +54,11 @@ module _ (tiles : Tiles) (brackets : List Bracket) (r : ℕ) where
   part_both : (xs ys : List Op) (a b : ℕ → List (MessageView Bracket)) (sl : Slots) (S R : ℕ → List (MessageView Bracket)) (K L : List (Piece Bracket)) → Part xs a sl S K → ((s : Slots) → Part ys b s R L) → Part (xs ++ ys) (λ p. a p ++ b p) sl (λ q. S q ++ R q) (K ++ L)
   part_both xs ys a b sl S R K L f g = let h = g f.after in record { after = h.after; does = does_both c r tiles xs ys a b sl f.after h.after S R K L f.does h.does }
 
-  and_yes : (b : Bool) → (b && true) ≡ b
-  and_yes true = refl
-  and_yes false = refl
-
-  and_no : (b : Bool) → (b && false) ≡ false
-  and_no true = refl
-  and_no false = refl
-
   own_whole : (t : ℕ) (x : TileView) → IsOn tiles brackets t x → whole c t ≡ piece_of t x (Leaf r)
   own_whole t x on = ap (λ n. record { tile = t; lo = 0; hi = n; content = Leaf r }) on.size
 
   -- a rank that hands in sends its image, and no other does anything
-  gift_runs : (t : ℕ) (x : TileView) → IsOn tiles brackets t x → (sl : Slots) → Part (gift t x r) nothing sl (λ q. cond ((x.display == q) && hands_in x r) (image_message t x r ∷ []) []) []
+  gift_runs : (t : ℕ) (x : TileView) → IsOn tiles brackets t x → (sl : Slots) → Part (gift t x r) nothing sl (messages_for t x r) []
   gift_runs t x on sl = go (hands_in x r)
     where
       go : (b : Bool) → Part (cond b (Load t 0 ∷ Swap (send_of t x) 0 ∷ []) []) nothing sl (λ q. cond ((x.display == q) && b) (image_message t x r ∷ []) []) []
@@ -78,16 +69,16 @@ module _ (tiles : Tiles) (brackets : List Bracket) (r : ℕ) where
           (load_does c r tiles t 0 sl on.within)
           (give_does c r tiles 0 x.display 0 p loaded (ap (λ w. Some w) (own_whole t x on))) in
           part_as (Load t 0 ∷ Swap (send_of t x) 0 ∷ []) nothing nothing sl (λ q. cond (x.display == q) (image_message t x r ∷ []) []) (λ q. cond ((x.display == q) && true) (image_message t x r ∷ []) []) [] refl
-          (fun_ext (λ q. ap (λ b. cond b (image_message t x r ∷ []) []) (sym (and_yes (x.display == q)))))
+          (fun_ext (λ q. ap (λ b. cond b (image_message t x r ∷ []) []) (sym (and-true (x.display == q)))))
           (record { after = put loaded 0 None; does = d })
       go false =
           part_as [] nothing nothing sl nothing (λ q. cond ((x.display == q) && false) (image_message t x r ∷ []) []) [] refl
-          (fun_ext (λ q. ap (λ b. cond b (image_message t x r ∷ []) []) (sym (and_no (x.display == q)))))
+          (fun_ext (λ q. ap (λ b. cond b (image_message t x r ∷ []) []) (sym (and-false (x.display == q)))))
           (part_nothing sl)
 
   gifts_run : (t : ℕ) (xs : List TileView) → AreOn tiles brackets t xs → (sl : Slots) → Part (gifts t xs r) nothing sl (messages_from t xs r) []
   gifts_run t [] on sl = part_nothing sl
-  gifts_run t (x ∷ xs) on sl = part_both (gift t x r) (gifts (suc t) xs r) nothing nothing sl (λ q. cond ((x.display == q) && hands_in x r) (image_message t x r ∷ []) []) (messages_from (suc t) xs r) [] [] (gift_runs t x on.0 sl) (λ s. gifts_run (suc t) xs on.1 s)
+  gifts_run t (x ∷ xs) on sl = part_both (gift t x r) (gifts (suc t) xs r) nothing nothing sl (messages_for t x r) (messages_from (suc t) xs r) [] [] (gift_runs t x on.0 sl) (λ s. gifts_run (suc t) xs on.1 s)
 
   module _ (t : ℕ) (x : TileView) (on : IsOn tiles brackets t x) (mine : x.display ≡ r) where
     -- the messages that the display takes for these contributors
@@ -146,7 +137,7 @@ module _ (tiles : Tiles) (brackets : List Bracket) (r : ℕ) where
         })
 
   -- the display takes what the contributors hand in, and keeps their images in the tile's bracket
-  showing_runs : (t : ℕ) (x : TileView) → IsOn tiles brackets t x → Apart (λ a b. a ≢ b) x.contributors → (sl : Slots) → Part (showing t x r) (λ p. cond ((x.display == r) && hands_in x p) (image_message t x p ∷ []) []) sl nothing (kept_of t x r)
+  showing_runs : (t : ℕ) (x : TileView) → IsOn tiles brackets t x → Apart (λ a b. a ≢ b) x.contributors → (sl : Slots) → Part (showing t x r) (λ p. messages_for t x p r) sl nothing (kept_of t x r)
   showing_runs t x on once sl = go (x.display == r) refl
     where
       go : (b : Bool) → (x.display == r) ≡ b → Part (cond b (folds t x x.contributors ++ Keep 0 ∷ []) []) (λ p. cond (b && hands_in x p) (image_message t x p ∷ []) []) sl nothing (cond b (piece_of t x (tile_bracket x) ∷ []) [])
@@ -156,13 +147,9 @@ module _ (tiles : Tiles) (brackets : List Bracket) (r : ℕ) where
           (fun_ext (λ p. picked x.display (image_message t x) p x.contributors once)) refl (shown t x on mine sl)
       go false e = part_nothing sl
 
-  -- no contributor stands twice in its tile
-  abbrev pub EachOnce : List TileView → Type 0
-  EachOnce xs = AllByRecursion (λ x. Apart (λ a b. a ≢ b) x.contributors) xs
-
   showings_run : (t : ℕ) (xs : List TileView) → AreOn tiles brackets t xs → EachOnce xs → (sl : Slots) → Part (showings t xs r) (λ p. messages_from t xs p r) sl nothing (kept_from t xs r)
   showings_run t [] on once sl = part_nothing sl
-  showings_run t (x ∷ xs) on once sl = part_both (showing t x r) (showings (suc t) xs r) (λ p. cond ((x.display == r) && hands_in x p) (image_message t x p ∷ []) []) (λ p. messages_from (suc t) xs p r) sl nothing nothing (kept_of t x r) (kept_from (suc t) xs r) (showing_runs t x on.0 once.0 sl) (λ s. showings_run (suc t) xs on.1 once.1 s)
+  showings_run t (x ∷ xs) on once sl = part_both (showing t x r) (showings (suc t) xs r) (λ p. messages_for t x p r) (λ p. messages_from (suc t) xs p r) sl nothing nothing (kept_of t x r) (kept_from (suc t) xs r) (showing_runs t x on.0 once.0 sl) (λ s. showings_run (suc t) xs on.1 once.1 s)
 
   pub direct_runs : (xs : List TileView) → AreOn tiles brackets 0 xs → EachOnce xs → (sl : Slots) → Part (direct_program xs r) (λ p. direct_messages xs p r) sl (direct_messages xs r) (kept_from 0 xs r)
   direct_runs xs on once sl =

@@ -1,15 +1,18 @@
 -- Lists without a number that stands twice.
 use Rattle.std.proofs.Common.{◌≡◌, ℕ, suc, false, List, [], ◌∷◌, refl, sym, ap, ◌∙◌, arith, ne_eqb}
 use Rattle.std.specs.Prelude.{◌||◌, ◌≢◌, AllPairs}
-use Rattle.std.specs.List.{AllByRecursion, All}
-use Rattle.std.proofs.lemmas.List.Elements.{All-head, All-tail}
-use Rattle.icet_multi.specs.Direct.{has}
+use Rattle.std.specs.List.{AllByRecursion}
+use Rattle.icet_multi.specs.Direct.{TileView, has}
 use Rattle.icet_model.proofs.Lists.{all_in_turn}
 
 -- the relation holds of each element and all later ones
 abbrev pub Apart : {X : Type 0} → (X → X → Type 0) → List X → Type 0
 Apart R [] = Unit {0}
 Apart R (x ∷ xs) = AllByRecursion (R x) xs × Apart R xs
+
+-- no contributor stands twice in its tile
+abbrev pub EachOnce : List TileView → Type 0
+EachOnce xs = AllByRecursion (λ x. Apart (λ a b. a ≢ b) x.contributors) xs
 
 pub apart_from_pairs : {X : Type 0} (R : X → X → Type 0) (xs : List X) → AllPairs R xs → Apart R xs
 apart_from_pairs R [] h = tt

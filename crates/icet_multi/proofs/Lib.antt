@@ -1,4 +1,5 @@
 pub mod Absent
+pub mod ByTile
 pub mod DirectSteps
 pub mod Distinct
 pub mod DirectKept

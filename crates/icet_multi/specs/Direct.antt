@@ -37,10 +37,17 @@ tile_bracket x = left (map (λ c. Leaf c) x.contributors)
 abbrev pub image_message : ℕ → TileView → ℕ → MessageView Bracket
 image_message t x q = record { round = 0; from = q; to = x.display; piece = record { tile = t; lo = 0; hi = x.size; content = Leaf q } }
 
--- the messages from q to r, by tile; t is the number of the first tile
+-- what there is for each tile, by tile; t is the number of the first
+abbrev pub by_tile : {A : Type 0} → (ℕ → TileView → List A) → ℕ → List TileView → List A
+by_tile of_tile t [] = []
+by_tile of_tile t (x ∷ xs) = of_tile t x ++ by_tile of_tile (suc t) xs
+
+-- the messages from q to r, one tile's and by tile
+abbrev pub messages_for : ℕ → TileView → Messages Bracket
+messages_for t x q r = cond ((x.display == r) && hands_in x q) (image_message t x q ∷ []) []
+
 abbrev pub messages_from : ℕ → List TileView → Messages Bracket
-messages_from t [] q r = []
-messages_from t (x ∷ xs) q r = cond ((x.display == r) && hands_in x q) (image_message t x q ∷ []) [] ++ messages_from (suc t) xs q r
+messages_from t tiles q r = by_tile (λ n x. messages_for n x q r) t tiles
 
 -- one message from each contributor to the display of its tile, if that is another rank, and none else
 abbrev pub direct_messages : List TileView → Messages Bracket
@@ -53,20 +60,24 @@ send_of t x = record { round = 0; kind = Send; peer = x.display; tile = t; lo = 
 abbrev pub take_of : ℕ → TileView → ℕ → Exchange
 take_of t x q = record { round = 0; kind = Take; peer = q; tile = t; lo = 0; hi = x.size }
 
--- the sends of rank r, by tile
+-- the sends of rank r, one tile's and by tile
+abbrev pub sends_for : ℕ → TileView → ℕ → List Exchange
+sends_for t x r = cond (hands_in x r) (send_of t x ∷ []) []
+
 abbrev pub sends_of : ℕ → List TileView → ℕ → List Exchange
-sends_of t [] r = []
-sends_of t (x ∷ xs) r = cond (hands_in x r) (send_of t x ∷ []) [] ++ sends_of (suc t) xs r
+sends_of t tiles r = by_tile (λ n x. sends_for n x r) t tiles
 
 -- the takes of a tile's display, in the order of the contributors
 abbrev pub takes_in : ℕ → TileView → List ℕ → List Exchange
 takes_in t x [] = []
 takes_in t x (c ∷ cs) = cond (c == x.display) [] (take_of t x c ∷ []) ++ takes_in t x cs
 
--- the takes of rank r, by tile
+-- the takes of rank r, one tile's and by tile
+abbrev pub takes_for : ℕ → TileView → ℕ → List Exchange
+takes_for t x r = cond (x.display == r) (takes_in t x x.contributors) []
+
 abbrev pub takes_of : ℕ → List TileView → ℕ → List Exchange
-takes_of t [] r = []
-takes_of t (x ∷ xs) r = cond (x.display == r) (takes_in t x x.contributors) [] ++ takes_of (suc t) xs r
+takes_of t tiles r = by_tile (λ n x. takes_for n x r) t tiles
 
 -- a rank's sends come first
 abbrev pub direct_exchanges : List TileView → ℕ → List Exchange
@@ -94,12 +105,10 @@ abbrev pub showing : ℕ → TileView → ℕ → List Op
 showing t x r = cond (x.display == r) (folds t x x.contributors ++ Keep 0 ∷ []) []
 
 abbrev pub gifts : ℕ → List TileView → ℕ → List Op
-gifts t [] r = []
-gifts t (x ∷ xs) r = gift t x r ++ gifts (suc t) xs r
+gifts t tiles r = by_tile (λ n x. gift n x r) t tiles
 
 abbrev pub showings : ℕ → List TileView → ℕ → List Op
-showings t [] r = []
-showings t (x ∷ xs) r = showing t x r ++ showings (suc t) xs r
+showings t tiles r = by_tile (λ n x. showing n x r) t tiles
 
 abbrev pub direct_program : List TileView → ℕ → List Op
 direct_program tiles r = gifts 0 tiles r ++ showings 0 tiles r

@@ -85,7 +85,6 @@ fn ops_of(alloc: Global, rank: Rank, tiles: &[TileRanks]) -> Result<Vec<Op>, NoM
     Ok(ops)
 }
 
-#[tactic(auto, using(crate::proofs::DirectSteps::gifts_more))]
 fn push_gifts(ops: &mut Vec<Op>, rank: Rank, tiles: &[TileRanks]) -> Result<(), NoMemory>
     requires { length tiles.now ≤ 16 }
     ensures { IfOk result (λ _. ops.new.items ≡ ops.old.items ++ gifts 0 tiles.now rank) }
@@ -96,7 +95,6 @@ fn push_gifts(ops: &mut Vec<Op>, rank: Rank, tiles: &[TileRanks]) -> Result<(), 
     Ok(())
 }
 
-#[tactic(auto, using(crate::proofs::DirectSteps::showings_more))]
 fn push_showings(ops: &mut Vec<Op>, rank: Rank, tiles: &[TileRanks]) -> Result<(), NoMemory>
     requires { length tiles.now ≤ 16 }
     ensures { IfOk result (λ _. ops.new.items ≡ ops.old.items ++ showings 0 tiles.now rank) }

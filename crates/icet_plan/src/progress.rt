@@ -148,38 +148,23 @@ impl<'a> Core<'a> {
         if !self.can_swap(rank, exchange) {
             return Advance::Stalled;
         }
-        match exchange.kind {
-            Kind::Send => self.send(rank, exchange),
-            Kind::Take => self.take(rank, exchange),
-        }
+        self.go(rank, exchange);
         Advance::Moved
     }
 
-    // counts a rank's next exchange, which is a send
-    fn send(&mut self, rank: Rank, exchange: &Exchange)
+    // counts this next exchange of a rank, which its ring allows now
+    fn go(&mut self, rank: Rank, exchange: &Exchange)
         requires rank { rank < length self.old.plan.programs }
         requires peer { exchange.now.peer < length self.old.plan.programs }
         requires due { due (all_of self.old) self.old.done rank ≡ Some exchange.now }
         requires next { get_or self.old.done rank 0 + 1 < 2 ^ 32 }
-        requires kind { exchange.now.kind ≡ Kind.Send }
         requires free { CanSwap (all_of self.old) self.old.cap self.old.done rank exchange.now.kind exchange.now.peer }
         ensures { self.new ≡ gone self.old rank }
     {
-        self.sent.raise(rank, exchange.peer);
-        count(&mut self.done, rank);
-    }
-
-    // counts a rank's next exchange, which is a take
-    fn take(&mut self, rank: Rank, exchange: &Exchange)
-        requires rank { rank < length self.old.plan.programs }
-        requires peer { exchange.now.peer < length self.old.plan.programs }
-        requires due { due (all_of self.old) self.old.done rank ≡ Some exchange.now }
-        requires next { get_or self.old.done rank 0 + 1 < 2 ^ 32 }
-        requires kind { exchange.now.kind ≡ Kind.Take }
-        requires free { CanSwap (all_of self.old) self.old.cap self.old.done rank exchange.now.kind exchange.now.peer }
-        ensures { self.new ≡ gone self.old rank }
-    {
-        self.taken.raise(exchange.peer, rank);
+        match exchange.kind {
+            Kind::Send => self.sent.raise(rank, exchange.peer),
+            Kind::Take => self.taken.raise(exchange.peer, rank),
+        }
         count(&mut self.done, rank);
     }
 

@@ -8,16 +8,14 @@ use Rattle.icet_model.specs.declared.exchange.Op.{Op}
 use Rattle.icet_model.specs.declared.exchange.Op.TheVariants.{Load, Blank, Cut, Join, Swap, Keep}
 use Rattle.icet_model.specs.Exchange.{of_op, exchanges, sends_to, takes_from, is_send_of, is_take_of}
 use Rattle.icet_model.specs.Run.{Carrier, Piece, MessageView, Local, fresh, put, run, upto, step, message_for, message_of, received}
-use Rattle.icet_model.specs.Wires.{Pairing}
 use Rattle.icet_model.specs.Fit.{FitsSwap, FitsSend, shape_at, shape_of}
-use Rattle.icet_model.specs.Ports.{at_list, IsAt}
-use Rattle.icet_model.specs.Ports.{by_peer}
+use Rattle.icet_model.specs.Ports.{at_list, by_peer, IsAt, AreAscending}
 use Rattle.icet_model.proofs.Lists.{take_next_suc}
 use Rattle.icet_plan.proofs.Lists.{all_get}
 use Rattle.icet_plan.proofs.LocalRuns.{exchanges-append}
 use Rattle.icet_plan.proofs.MachineSteps.{local_moves, send_moves, take_moves}
 use Rattle.icet_rank.specs.Fits.{IsFilled, undisplayed, FitsAnyDisplay, AllFitAnyDisplay}
-use Rattle.icet_rank.specs.Moves.{Carried, Missed, Met}
+use Rattle.icet_rank.specs.Moves.{Carried}
 use Rattle.icet_rank.specs.Machine.{Names, Runs}
 use Rattle.icet_plan.proofs.FlowIsOne.{at_exchange}
 
@@ -122,27 +120,28 @@ module _ {I O T : Type 0} (taken : I → List (MessageView T)) (in_room : I → 
         named = subst (λ n. AllByRecursion (Names n) ops) (sym l) r.named;
       })
 
-    pub send_missed : {C : Type 0} (known misses : O → ℕ) (pairing : O → C) (peer : ℕ) (slots_new : List (Option (Piece T))) (out_new : List (ℕ × O)) → slots_new ≡ slots → Missed sent out_room known misses pairing peer outboxes out_new → Runs taken in_room sent out_room sizes c me ops place counter slots_new kept inboxes out_new
-    send_missed known misses pairing peer slots_new out_new s m = subst (λ z. Runs taken in_room sent out_room sizes c me ops place counter z kept inboxes out_new) (sym s) (record {
-      is_at = subst (λ f. IsAt c me ops place (by_peer taken [] inboxes) (at_list slots) kept f) (sym m.same_lists) r.is_at;
+    -- outboxes, or inboxes, that carry the same lists and have the same rooms serve as well
+    pub with_outboxes : (out_new : List (ℕ × O)) → by_peer sent [] out_new ≡ by_peer sent [] outboxes → by_peer out_room 0 out_new ≡ by_peer out_room 0 outboxes → AreAscending out_new → Runs taken in_room sent out_room sizes c me ops place counter slots kept inboxes out_new
+    with_outboxes out_new lists rooms ascend = record {
+      is_at = subst (λ f. IsAt c me ops place (by_peer taken [] inboxes) (at_list slots) kept f) (sym lists) r.is_at;
       within = r.within;
       count = r.count;
       in_ascend = r.in_ascend;
-      out_ascend = m.beside.ascend;
+      out_ascend = ascend;
       in_rooms = r.in_rooms;
-      out_rooms = λ q. ap (λ f. f q) m.same_rooms ∙ r.out_rooms q;
+      out_rooms = λ q. ap (λ f. f q) rooms ∙ r.out_rooms q;
       fits = r.fits;
       named = r.named;
-    })
+    }
 
-    pub take_missed : {C : Type 0} (known misses : I → ℕ) (pairing : I → C) (peer : ℕ) (in_new : List (ℕ × I)) → Missed taken in_room known misses pairing peer inboxes in_new → Runs taken in_room sent out_room sizes c me ops place counter slots kept in_new outboxes
-    take_missed known misses pairing peer in_new m = record {
-      is_at = subst (λ t. IsAt c me ops place t (at_list slots) kept (by_peer sent [] outboxes)) (sym m.same_lists) r.is_at;
+    pub with_inboxes : (in_new : List (ℕ × I)) → by_peer taken [] in_new ≡ by_peer taken [] inboxes → by_peer in_room 0 in_new ≡ by_peer in_room 0 inboxes → AreAscending in_new → Runs taken in_room sent out_room sizes c me ops place counter slots kept in_new outboxes
+    with_inboxes in_new lists rooms ascend = record {
+      is_at = subst (λ t. IsAt c me ops place t (at_list slots) kept (by_peer sent [] outboxes)) (sym lists) r.is_at;
       within = r.within;
       count = r.count;
-      in_ascend = m.beside.ascend;
+      in_ascend = ascend;
       out_ascend = r.out_ascend;
-      in_rooms = λ q. ap (λ f. f q) m.same_rooms ∙ r.in_rooms q;
+      in_rooms = λ q. ap (λ f. f q) rooms ∙ r.in_rooms q;
       out_rooms = r.out_rooms;
       fits = r.fits;
       named = r.named;
@@ -166,32 +165,6 @@ module _ {I O T : Type 0} (taken : I → List (MessageView T)) (in_room : I → 
           fits = r.fits;
           named = subst (λ n. AllByRecursion (Names n) ops) (sym l) r.named;
         })
-
-    pub out_met : (pairing : O → Pairing) (peer : ℕ) (out_new : List (ℕ × O)) → Met sent out_room pairing peer outboxes out_new → Runs taken in_room sent out_room sizes c me ops place counter slots kept inboxes out_new
-    out_met pairing peer out_new m = record {
-      is_at = subst (λ f. IsAt c me ops place (by_peer taken [] inboxes) (at_list slots) kept f) (sym m.same_lists) r.is_at;
-      within = r.within;
-      count = r.count;
-      in_ascend = r.in_ascend;
-      out_ascend = m.beside.ascend;
-      in_rooms = r.in_rooms;
-      out_rooms = λ q. ap (λ f. f q) m.same_rooms ∙ r.out_rooms q;
-      fits = r.fits;
-      named = r.named;
-    }
-
-    pub in_met : (pairing : I → Pairing) (peer : ℕ) (in_new : List (ℕ × I)) → Met taken in_room pairing peer inboxes in_new → Runs taken in_room sent out_room sizes c me ops place counter slots kept in_new outboxes
-    in_met pairing peer in_new m = record {
-      is_at = subst (λ t. IsAt c me ops place t (at_list slots) kept (by_peer sent [] outboxes)) (sym m.same_lists) r.is_at;
-      within = r.within;
-      count = r.count;
-      in_ascend = m.beside.ascend;
-      out_ascend = r.out_ascend;
-      in_rooms = λ q. ap (λ f. f q) m.same_rooms ∙ r.in_rooms q;
-      out_rooms = r.out_rooms;
-      fits = r.fits;
-      named = r.named;
-    }
 
 -- a slice of a whole vector, written back
 front : {X : Type 0} (n : ℕ) (xs zs : List X) → length xs ≡ n → take n (xs ++ zs) ≡ xs

@@ -14,13 +14,13 @@ use Rattle.icet_model.specs.Exchange.{exchanges, of_op}
 use Rattle.icet_model.specs.Run.{Piece, MessageView, Local, put, blank_of, cut_slots, joined_piece, with_kept, message_of, received, step, message_for}
 use Rattle.icet_model.specs.Wires.{Pairing}
 use Rattle.icet_model.specs.Fit.{FitsCut, FitsJoin, FitsSwap, shape_of}
-use Rattle.icet_model.specs.Ports.{at_list, by_peer}
+use Rattle.icet_model.specs.Ports.{at_list, by_peer, AreAscending}
 use Rattle.icet_plan.proofs.SlotList.{list_set}
 use Rattle.icet_rank.specs.Fits.{IsFilled, undisplayed, FitsAnyDisplay}
 use Rattle.icet_rank.specs.Moves.{HasPeer, Carried, Missed, Met}
 use Rattle.icet_rank.specs.Machine.{Names, MachineView, IsRunning, sizes_of, carrier_of}
 use Rattle.icet_rank.proofs.PortMoves.{has_peer}
-use Rattle.icet_rank.proofs.Keeps.{below, fits_now, names_now, filled_now, out_room_now, in_room_now, due_now, few, local_on, sent_on, taken_on, send_missed, take_missed, out_met, in_met, with_piece}
+use Rattle.icet_rank.proofs.Keeps.{below, fits_now, names_now, filled_now, out_room_now, in_room_now, due_now, few, local_on, sent_on, taken_on, with_outboxes, with_inboxes, with_piece}
 use Rattle.icet_rank.proofs.Local.{hi_is, image_whole, of_sizes, shape_filled, fits_join, join_to}
 
 module _ {I O : Type 0} {taken : I → List (MessageView (List Pixel))} {in_room : I → ℕ} {sent : O → List (MessageView (List Pixel))} {out_room : O → ℕ} {m v : MachineView I O} (r : IsRunning taken in_room sent out_room m) (same : m ≡ v) where
@@ -126,14 +126,20 @@ module _ {I O : Type 0} {taken : I → List (MessageView (List Pixel))} {in_room
     }
 
 module _ {I O : Type 0} {taken : I → List (MessageView (List Pixel))} {in_room : I → ℕ} {sent : O → List (MessageView (List Pixel))} {out_room : O → ℕ} {m : MachineView I O} (r : IsRunning taken in_room sent out_room m) where
+  on_outboxes : (outboxes : List (ℕ × O)) → by_peer sent [] outboxes ≡ by_peer sent [] m.outboxes → by_peer out_room 0 outboxes ≡ by_peer out_room 0 m.outboxes → AreAscending outboxes → IsRunning taken in_room sent out_room (record m { outboxes = outboxes })
+  on_outboxes outboxes lists rooms ascend = record { runs = with_outboxes _ _ _ _ _ _ _ _ _ _ _ _ _ _ r.runs outboxes lists rooms ascend; images = r.images; short = r.short }
+
+  on_inboxes : (inboxes : List (ℕ × I)) → by_peer taken [] inboxes ≡ by_peer taken [] m.inboxes → by_peer in_room 0 inboxes ≡ by_peer in_room 0 m.inboxes → AreAscending inboxes → IsRunning taken in_room sent out_room (record m { inboxes = inboxes })
+  on_inboxes inboxes lists rooms ascend = record { runs = with_inboxes _ _ _ _ _ _ _ _ _ _ _ _ _ _ r.runs inboxes lists rooms ascend; images = r.images; short = r.short }
+
   pub send_waits : {C : Type 0} {known misses : O → ℕ} {pairing : O → C} {peer : ℕ} (slots : List (Option (Piece (List Pixel)))) (outboxes : List (ℕ × O)) → slots ≡ m.slots → Missed sent out_room known misses pairing peer m.outboxes outboxes → IsRunning taken in_room sent out_room (record m { slots = slots; outboxes = outboxes })
-  send_waits slots outboxes s h = record { runs = send_missed _ _ _ _ _ _ _ _ _ _ _ _ _ _ r.runs _ _ _ _ slots outboxes s h; images = r.images; short = r.short }
+  send_waits slots outboxes s h = subst (λ z. IsRunning taken in_room sent out_room (record m { slots = z; outboxes = outboxes })) (sym s) (on_outboxes outboxes h.same_lists h.same_rooms h.beside.ascend)
 
   pub take_waits : {C : Type 0} {known misses : I → ℕ} {pairing : I → C} {peer : ℕ} (inboxes : List (ℕ × I)) → Missed taken in_room known misses pairing peer m.inboxes inboxes → IsRunning taken in_room sent out_room (record m { inboxes = inboxes })
-  take_waits inboxes h = record { runs = take_missed _ _ _ _ _ _ _ _ _ _ _ _ _ _ r.runs _ _ _ _ inboxes h; images = r.images; short = r.short }
+  take_waits inboxes h = on_inboxes inboxes h.same_lists h.same_rooms h.beside.ascend
 
   pub outbox_met : {pairing : O → Pairing} {peer : ℕ} (outboxes : List (ℕ × O)) → Met sent out_room pairing peer m.outboxes outboxes → IsRunning taken in_room sent out_room (record m { outboxes = outboxes })
-  outbox_met outboxes h = record { runs = out_met _ _ _ _ _ _ _ _ _ _ _ _ _ _ r.runs _ _ outboxes h; images = r.images; short = r.short }
+  outbox_met outboxes h = on_outboxes outboxes h.same_lists h.same_rooms h.beside.ascend
 
   pub inbox_met : {pairing : I → Pairing} {peer : ℕ} (inboxes : List (ℕ × I)) → Met taken in_room pairing peer m.inboxes inboxes → IsRunning taken in_room sent out_room (record m { inboxes = inboxes })
-  inbox_met inboxes h = record { runs = in_met _ _ _ _ _ _ _ _ _ _ _ _ _ _ r.runs _ _ inboxes h; images = r.images; short = r.short }
+  inbox_met inboxes h = on_inboxes inboxes h.same_lists h.same_rooms h.beside.ascend

@@ -1,18 +1,11 @@
-use Rattle.std.proofs.Common.{◌∙◌, ◌++◌, sym, ap, take}
-use Rattle.std.proofs.lemmas.List.{append_assoc}
+use Rattle.std.proofs.Common.{◌∙◌, ◌++◌, ap}
+use Rattle.std.proofs.lemmas.List.{take_all}
 use Rattle.icet_multi.specs.Direct.{showing, showings}
-use Rattle.icet_multi.proofs.DirectSteps.{showings_more}
+use Rattle.icet_multi.proofs.ByTile.{tile_put}
 use Rattle.icet_multi.proofs.direct.push_showings.Goals as goal
 
 pub loop-t-preserved : goal.loop-t-preserved
-loop-t-preserved c =
-    let r = c.args.rank in
-    let xs = c.args.tiles.now in
-    let t = c.loop-t.t in
-    let x = c.index-tiles-t.result in
-    let before = c.args.ops.now.items in
-    c.in_ok-push_showing.ensures
-    ∙ (ap (λ z. z ++ showing t x r) c.loop-t.invariant
-    ∙ (append_assoc before (showings 0 (take t xs) r) (showing t x r)
-    ∙ (ap (λ y. before ++ (showings 0 (take t xs) r ++ showing t y r)) c.index-tiles-t.is
-    ∙ ap (λ z. before ++ z) (sym (showings_more xs r t x c.loop-t-test.true)))))
+loop-t-preserved c = tile_put (λ n x. showing n x c.args.rank) _ _ _ c.args.tiles.now c.loop-t.t c.index-tiles-t.result c.loop-t-test.true c.loop-t.invariant c.index-tiles-t.is c.in_ok-push_showing.ensures
+
+pub returns : goal.returns
+returns c = c.loop-t.invariant ∙ ap (λ xs. c.args.ops.now.items ++ showings 0 xs c.args.rank) (take_all c.loop-t.t c.args.tiles.now c.loop-t-test.false)
