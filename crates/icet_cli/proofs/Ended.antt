@@ -1,5 +1,6 @@
 -- What the writers of the jobs leave is what a run promises.
-use Rattle.std.proofs.Common.{◌≡◌, ℕ, ◌≤◌, List, ◌++◌, length, Option, Some, None, Result, Ok, Err, refl, sym, ap, ◌∙◌, subst}
+use Rattle.std.proofs.Common.{◌≡◌, ℕ, ◌≤◌, List, ◌++◌, length, Option, Some, None, Result, Ok, Err, refl, sym, ap, ◌∙◌, subst, ⊎_elim}
+use Rattle.std.specs.Prelude.{◌⊎◌}
 use Rattle.std.specs.Io.KnownBytes.{Keeps, Consumes, IsAtEnd}
 use Rattle.std.proofs.lemmas.List.{append-nil}
 use Rattle.icet_model.specs.Core.{start}
@@ -17,16 +18,13 @@ use Rattle.icet_multi.specs.Strategies.{IsPlanOf}
 use Rattle.icet_jobs.specs.Composites.{composite_traffic, scene_tiles}
 use Rattle.icet_jobs.proofs.PlanExchanges.{plan_exchanges_are}
 use Rattle.icet_cli.specs.Outcome.{Outside, text_for, job_text, traffic_for, job_traffic, IsCommand, RefusesScene, RunsTo}
-use Rattle.icet_cli.specs.Faults.{of_source, of_job, status_of, status_for, line_of, IsNoted}
+use Rattle.icet_cli.specs.Faults.{of_job, status_of, status_for, line_of, IsNoted}
 use Rattle.icet_cli.specs.Notes.{HasNoted}
 use Rattle.icet_cli.specs.Endings.{Shown, FailsJob, IsUntouched, EndsWith}
 use Rattle.icet_jobs.specs.declared.replaying.JobFault.{JobFault}
 use Rattle.icet_jobs.specs.declared.replaying.JobFault.TheVariants.{Write as JobWrite, NoMemory as JobMemory}
-use Rattle.icet_scene.specs.declared.fault.SceneFault.TheVariants.{TooLong, NotBuilt, TooLarge, NoMemory as SceneMemory}
-use Rattle.icet_cli.specs.declared.source.SourceError.{SourceError}
-use Rattle.icet_cli.specs.declared.source.SourceError.TheVariants.{ReadFault as SourceFailed, NoMemory as SourceMemory}
 use Rattle.icet_cli.specs.declared.fault.Fault.{Fault}
-use Rattle.icet_cli.specs.declared.fault.Fault.TheVariants.{Words, Read, Scene, Write, NoMemory}
+use Rattle.icet_cli.specs.declared.fault.Fault.TheVariants.{Words, Read, TooLong, NotBuilt, TooLarge, Write, NoMemory}
 use Rattle.icet_cli.proofs.Completeness.{short}
 
 pub keeps_same : (bytes : Option (List ℕ)) → Keeps bytes bytes
@@ -75,9 +73,14 @@ job_failed command text old new JobWrite write memory = write refl
 job_failed command text old new JobMemory write memory = memory refl
 
 -- a run whose source wasn't read
-pub reading_failed : (words : List (List ℕ)) (command : Command) (old new : Outside) (error : SourceError) → command_of words ≡ Some command → (error ≡ SourceFailed → Rose old.read_faults new.read_faults) → Keeps old.written new.written → new.log ≡ old.log → HasNoted old.noted new.noted old.note_faults new.note_faults (line_of (of_source error)) → RunsTo words old new (status_of (of_source error))
-reading_failed words command old new SourceFailed read rose written log noted = (record { command = command; is = read }, rose refl, record { written = written; log = log; noted = noted })
-reading_failed words command old new SourceMemory read rose written log noted = record { written = written; log = log; noted = noted }
+pub reading_failed : (words : List (List ℕ)) (command : Command) (old new : Outside) (fault : Fault) → command_of words ≡ Some command → (fault ≡ Read → Rose old.read_faults new.read_faults) → (fault ≡ Read) ⊎ (fault ≡ NoMemory) → Keeps old.written new.written → new.log ≡ old.log → HasNoted old.noted new.noted old.note_faults new.note_faults (line_of fault) → RunsTo words old new (status_of fault)
+reading_failed words command old new Read read rose is written log noted = (record { command = command; is = read }, rose refl, record { written = written; log = log; noted = noted })
+reading_failed words command old new NoMemory read rose is written log noted = record { written = written; log = log; noted = noted }
+reading_failed words command old new Words read rose is written log noted = absurd (⊎_elim (λ (e : Words ≡ Read). cc) (λ (e : Words ≡ NoMemory). cc) is)
+reading_failed words command old new TooLong read rose is written log noted = absurd (⊎_elim (λ (e : TooLong ≡ Read). cc) (λ (e : TooLong ≡ NoMemory). cc) is)
+reading_failed words command old new (NotBuilt line) read rose is written log noted = absurd (⊎_elim (λ (e : NotBuilt line ≡ Read). cc) (λ (e : NotBuilt line ≡ NoMemory). cc) is)
+reading_failed words command old new TooLarge read rose is written log noted = absurd (⊎_elim (λ (e : TooLarge ≡ Read). cc) (λ (e : TooLarge ≡ NoMemory). cc) is)
+reading_failed words command old new Write read rose is written log noted = absurd (⊎_elim (λ (e : Write ≡ Read). cc) (λ (e : Write ≡ NoMemory). cc) is)
 
 -- a run whose words and source were read, and whose fault was noted
 pub runs_from : (words : List (List ℕ)) (command : Command) (bytes : List ℕ) (old new : Outside) (result : Result (Unit {0}) Fault) → command_of words ≡ Some command → Consumes old.left new.left bytes → (length bytes ≤ 67108864 → IsAtEnd new.left) → EndsWith command (text_is bytes) (shown old) (shown new) result → IsNoted result old.noted new.noted old.note_faults new.note_faults → RunsTo words old new (status_for result)
@@ -101,10 +104,9 @@ runs_from words command bytes old new (Err Write) read consumed end e noted = re
   log = e.log;
   noted = noted;
 }
-runs_from words command bytes old new (Err (Scene TooLong)) read consumed end e noted = refused words command bytes old new TooLongText (λ scene is. absurd cc) read consumed end e.0 e.1 noted
-runs_from words command bytes old new (Err (Scene (NotBuilt line))) read consumed end e noted = refused words command bytes old new (NotBuiltText line) (λ scene is. absurd cc) read consumed end e.0 e.1 noted
-runs_from words command bytes old new (Err (Scene TooLarge)) read consumed end e noted = refused words command bytes old new TooLargeText (λ scene is. absurd cc) read consumed end e.0 e.1 noted
-runs_from words command bytes old new (Err (Scene SceneMemory)) read consumed end e noted = record { written = e.1.written; log = e.1.log; noted = noted }
+runs_from words command bytes old new (Err TooLong) read consumed end e noted = refused words command bytes old new TooLongText (λ scene is. absurd cc) read consumed end e.0 e.1 noted
+runs_from words command bytes old new (Err (NotBuilt line)) read consumed end e noted = refused words command bytes old new (NotBuiltText line) (λ scene is. absurd cc) read consumed end e.0 e.1 noted
+runs_from words command bytes old new (Err TooLarge) read consumed end e noted = refused words command bytes old new TooLargeText (λ scene is. absurd cc) read consumed end e.0 e.1 noted
 runs_from words command bytes old new (Err NoMemory) read consumed end e noted = record { written = e.written; log = e.log; noted = noted }
 runs_from words command bytes old new (Err Words) read consumed end e noted = absurd e
 runs_from words command bytes old new (Err Read) read consumed end e noted = absurd e

@@ -4,13 +4,12 @@ use Rattle.std.specs.Io.KnownBytes.{Keeps, Appends, append_known}
 use Rattle.icet_model.specs.Bytes.{Extends, HasFront}
 use Rattle.icet_model.specs.Faults.{Rose}
 use Rattle.icet_model.specs.Pixel.{Pixel}
-use Rattle.icet_model.specs.Scene.{SceneView, Text, SceneText}
+use Rattle.icet_model.specs.Scene.{SceneView, Text, SceneText, TooLong as TooLongText, NotBuilt as NotBuiltText, TooLarge as TooLargeText}
 use Rattle.icet_model.specs.Traffic.{PairTraffic}
 use Rattle.icet_model.specs.Words.{Command}
-use Rattle.icet_scene.specs.Readings.{IsFaultOf}
 use Rattle.icet_cli.specs.Outcome.{job_text, job_traffic}
 use Rattle.icet_cli.specs.declared.fault.Fault.{Fault}
-use Rattle.icet_cli.specs.declared.fault.Fault.TheVariants.{Words, Read, Scene, Write, NoMemory}
+use Rattle.icet_cli.specs.declared.fault.Fault.TheVariants.{Words, Read, TooLong, NotBuilt, TooLarge, Write, NoMemory}
 
 -- what sink and wires tell
 pub record Shown : Type 0 where
@@ -43,7 +42,9 @@ pub record IsUntouched (old new : Shown) : Type 0 where
 abbrev pub EndsWith : Command → Text → Shown → Shown → Result (Unit {0}) Fault → Type 0
 EndsWith command text old new (Ok done) = WritesJob command text old new
 EndsWith command text old new (Err Write) = FailsJob command text old new
-EndsWith command text old new (Err (Scene fault)) = IsFaultOf fault text × IsUntouched old new
+EndsWith command text old new (Err TooLong) = (text ≡ TooLongText) × IsUntouched old new
+EndsWith command text old new (Err (NotBuilt line)) = (text ≡ NotBuiltText line) × IsUntouched old new
+EndsWith command text old new (Err TooLarge) = (text ≡ TooLargeText) × IsUntouched old new
 EndsWith command text old new (Err NoMemory) = IsUntouched old new
 EndsWith command text old new (Err Words) = ⊥
 EndsWith command text old new (Err Read) = ⊥

@@ -5,18 +5,19 @@ use Rattle.icet_model.specs.FaultLines.{words_line, read_line, write_line, memor
 use Rattle.icet_model.specs.Scene.{TooLong as TooLongText, NotBuilt as NotBuiltText, TooLarge as TooLargeText}
 use Rattle.icet_jobs.specs.declared.replaying.JobFault.{JobFault}
 use Rattle.icet_jobs.specs.declared.replaying.JobFault.TheVariants.{Write as JobWrite, NoMemory as JobMemory}
-use Rattle.icet_scene.specs.declared.fault.SceneFault.TheVariants.{TooLong, NotBuilt, TooLarge, NoMemory as SceneMemory}
+use Rattle.icet_scene.specs.declared.fault.SceneFault.{SceneFault}
+use Rattle.icet_scene.specs.declared.fault.SceneFault.TheVariants.{TooLong as SceneTooLong, NotBuilt as SceneNotBuilt, TooLarge as SceneTooLarge, NoMemory as SceneMemory}
 use Rattle.icet_cli.specs.Notes.{HasNoted}
 use Rattle.icet_cli.specs.declared.fault.Fault.{Fault}
-use Rattle.icet_cli.specs.declared.fault.Fault.TheVariants.{Words, Read, Scene, Write, NoMemory}
-use Rattle.icet_cli.specs.declared.source.SourceError.{SourceError}
-use Rattle.icet_cli.specs.declared.source.SourceError.TheVariants.{ReadFault as SourceFailed, NoMemory as SourceMemory}
+use Rattle.icet_cli.specs.declared.fault.Fault.TheVariants.{Words, Read, TooLong, NotBuilt, TooLarge, Write, NoMemory}
 use Rattle.icet_cli.specs.declared.status.Status.{Status}
 use Rattle.icet_cli.specs.declared.status.Status.TheVariants.{Ok as OkStatus, SceneRefused, WordsRefused, ReadFault, WriteFault, NoMemory as MemoryStatus}
 
-abbrev pub of_source : SourceError → Fault
-of_source SourceFailed = Read
-of_source SourceMemory = NoMemory
+abbrev pub of_scene : SceneFault → Fault
+of_scene SceneTooLong = TooLong
+of_scene (SceneNotBuilt line) = NotBuilt line
+of_scene SceneTooLarge = TooLarge
+of_scene SceneMemory = NoMemory
 
 abbrev pub of_job : JobFault → Fault
 of_job JobWrite = Write
@@ -26,10 +27,9 @@ of_job JobMemory = NoMemory
 abbrev pub status_of : Fault → Status
 status_of Words = WordsRefused
 status_of Read = ReadFault
-status_of (Scene TooLong) = SceneRefused
-status_of (Scene (NotBuilt line)) = SceneRefused
-status_of (Scene TooLarge) = SceneRefused
-status_of (Scene SceneMemory) = MemoryStatus
+status_of TooLong = SceneRefused
+status_of (NotBuilt line) = SceneRefused
+status_of TooLarge = SceneRefused
 status_of Write = WriteFault
 status_of NoMemory = MemoryStatus
 
@@ -37,10 +37,9 @@ status_of NoMemory = MemoryStatus
 abbrev pub line_of : Fault → List ℕ
 line_of Words = words_line
 line_of Read = read_line
-line_of (Scene TooLong) = text_line TooLongText
-line_of (Scene (NotBuilt line)) = text_line (NotBuiltText line)
-line_of (Scene TooLarge) = text_line TooLargeText
-line_of (Scene SceneMemory) = memory_line
+line_of TooLong = text_line TooLongText
+line_of (NotBuilt line) = text_line (NotBuiltText line)
+line_of TooLarge = text_line TooLargeText
 line_of Write = write_line
 line_of NoMemory = memory_line
 

@@ -1,8 +1,8 @@
-use crate::source::SourceError;
 use crate::status::Status;
-use icet_base::{NoMemory as WantOfMemory, WriteFault};
+use icet_base::{NoMemory as WantOfMemory, ReadFault, WriteFault};
 use icet_jobs::JobFault;
 use icet_scene::fault::SceneFault;
+use std::alloc::AllocError;
 
 /// Why a run ended without its whole text.
 #[derive(Clone, Copy, Debug, PartialEq, Eq)]
@@ -11,8 +11,12 @@ pub enum Fault {
     Words,
     /// The source failed.
     Read,
-    /// The source's bytes are no scene, or couldn't be read as one for want of memory.
-    Scene(SceneFault),
+    /// The scene's text is longer than 67,108,864 bytes.
+    TooLong,
+    /// The line of the scene's text that isn't the one that has to stand there, counted from 1.
+    NotBuilt(u32),
+    /// Ranks times the tile's pixels exceed 67,108,864.
+    TooLarge,
     /// The sink failed.
     Write,
     /// Memory was wanted and not there.
@@ -30,36 +34,39 @@ impl Fault {
         match self {
             Fault::Words => Status::WordsRefused,
             Fault::Read => Status::ReadFault,
-            Fault::Scene(SceneFault::NoMemory) => Status::NoMemory,
-            Fault::Scene(_) => Status::SceneRefused,
+            Fault::TooLong => Status::SceneRefused,
+            Fault::NotBuilt(_) => Status::SceneRefused,
+            Fault::TooLarge => Status::SceneRefused,
             Fault::Write => Status::WriteFault,
             Fault::NoMemory => Status::NoMemory,
         }
     }
 }
 
-impl From<SourceError> for Fault {
+impl From<ReadFault> for Fault {
     ghost use Rattle.std.specs.Prelude.{◌≡◌};
-    ghost use Rattle.icet_cli.specs.Faults.{of_source};
+    ghost use Rattle.icet_cli.specs.declared.fault.Fault.TheVariants.{Read};
 
-    ghost from_gives = { λ error e. e ≡ of_source error };
+    ghost from_gives = { λ _ e. e ≡ Read };
 
-    fn from(error: SourceError) -> Fault {
-        match error {
-            SourceError::ReadFault => Fault::Read,
-            SourceError::NoMemory => Fault::NoMemory,
-        }
+    fn from(_fault: ReadFault) -> Fault {
+        Fault::Read
     }
 }
 
 impl From<SceneFault> for Fault {
     ghost use Rattle.std.specs.Prelude.{◌≡◌};
-    ghost use Rattle.icet_cli.specs.declared.fault.Fault.TheVariants.{Scene};
+    ghost use Rattle.icet_cli.specs.Faults.{of_scene};
 
-    ghost from_gives = { λ fault e. e ≡ Scene fault };
+    ghost from_gives = { λ fault e. e ≡ of_scene fault };
 
     fn from(fault: SceneFault) -> Fault {
-        Fault::Scene(fault)
+        match fault {
+            SceneFault::TooLong => Fault::TooLong,
+            SceneFault::NotBuilt(line) => Fault::NotBuilt(line),
+            SceneFault::TooLarge => Fault::TooLarge,
+            SceneFault::NoMemory => Fault::NoMemory,
+        }
     }
 }
 
@@ -95,6 +102,17 @@ impl From<WantOfMemory> for Fault {
     ghost from_gives = { λ _ e. e ≡ NoMemory };
 
     fn from(_want: WantOfMemory) -> Fault {
+        Fault::NoMemory
+    }
+}
+
+impl From<AllocError> for Fault {
+    ghost use Rattle.std.specs.Prelude.{◌≡◌};
+    ghost use Rattle.icet_cli.specs.declared.fault.Fault.TheVariants.{NoMemory};
+
+    ghost from_gives = { λ _ e. e ≡ NoMemory };
+
+    fn from(_error: AllocError) -> Fault {
         Fault::NoMemory
     }
 }

@@ -3,11 +3,9 @@ ghost use Rattle.icet_model.specs.Faults.{HasCause};
 ghost use Rattle.icet_base.specs.PenText.{Puts};
 ghost use Rattle.icet_cli.specs.Notes.{HasNoted};
 ghost use Rattle.icet_cli.specs.Faults.{line_of};
-ghost use Rattle.icet_cli.specs.declared.fault.Fault.TheVariants.{Scene};
 
 use crate::fault::Fault;
 use icet_base::{Pen, Sink, WriteFault};
-use icet_scene::fault::SceneFault;
 
 /// Notes the line of a fault. A fault of the notes themselves is kept to itself.
 pub fn note_fault<N: Sink>(notes: &mut N, fault: Fault)
@@ -16,21 +14,11 @@ pub fn note_fault<N: Sink>(notes: &mut N, fault: Fault)
     match fault {
         Fault::Words => note(notes, b"icet: words refused\n"),
         Fault::Read => note(notes, b"icet: read failed\n"),
-        Fault::Scene(fault) => note_scene_fault(notes, fault),
+        Fault::TooLong => note(notes, b"icet: scene longer than 67108864 bytes\n"),
+        Fault::NotBuilt(line) => note_line(notes, line),
+        Fault::TooLarge => note(notes, b"icet: scene too large\n"),
         Fault::Write => note(notes, b"icet: write failed\n"),
         Fault::NoMemory => note(notes, b"icet: no memory\n"),
-    }
-}
-
-/// Notes why a text is no scene.
-fn note_scene_fault<N: Sink>(notes: &mut N, fault: SceneFault)
-    ensures { HasNoted (N.written notes.old) (N.written notes.new) (N.faults notes.old) (N.faults notes.new) (line_of (Scene fault)) }
-{
-    match fault {
-        SceneFault::TooLong => note(notes, b"icet: scene longer than 67108864 bytes\n"),
-        SceneFault::NotBuilt(line) => note_line(notes, line),
-        SceneFault::TooLarge => note(notes, b"icet: scene too large\n"),
-        SceneFault::NoMemory => note(notes, b"icet: no memory\n"),
     }
 }
 

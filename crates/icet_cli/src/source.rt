@@ -1,48 +1,21 @@
-ghost use Rattle.std.specs.Prelude.{◌≡◌, ◌≤◌, ◌<◌, ◌+◌, IfOk, IfErr, length, vec_len};
+ghost use Rattle.std.specs.Prelude.{◌≡◌, ◌≤◌, ◌<◌, ◌+◌, ◌⊎◌, IfOk, IfErr, length, vec_len};
 ghost use Rattle.std.specs.Io.KnownBytes.{Consumes, IsAtEnd};
 ghost use Rattle.icet_model.specs.Faults.{Rose};
 
+use crate::fault::Fault;
+use icet_base::Source;
 use icet_base::limits::{MAX_READ, MAX_SCENE_BYTES};
-use icet_base::{NoMemory, ReadFault, Source};
 use std::alloc::{AllocError, Global};
-
-/// Why a source wasn't read to its end.
-#[derive(Clone, Copy, Debug, PartialEq, Eq)]
-pub enum SourceError {
-    ReadFault,
-    NoMemory,
-}
-
-impl From<ReadFault> for SourceError {
-    ghost use Rattle.std.specs.Prelude.{◌≡◌};
-    ghost use Rattle.icet_cli.specs.declared.source.SourceError.TheVariants.{ReadFault as Failed};
-
-    ghost from_gives = { λ _ e. e ≡ Failed };
-
-    fn from(_fault: ReadFault) -> SourceError {
-        SourceError::ReadFault
-    }
-}
-
-impl From<AllocError> for SourceError {
-    ghost use Rattle.std.specs.Prelude.{◌≡◌};
-    ghost use Rattle.icet_cli.specs.declared.source.SourceError.TheVariants.{NoMemory as Wanting};
-
-    ghost from_gives = { λ _ e. e ≡ Wanting };
-
-    fn from(_error: AllocError) -> SourceError {
-        SourceError::NoMemory
-    }
-}
 
 #[tactic(auto, using(crate::proofs::Consumed::consumes_more))]
 /// The bytes of the source to its end, or until more than a scene may have were read, in pieces of at
 /// most 65,536 bytes.
-pub fn read_all<S: Source>(alloc: Global, source: &mut S) -> Result<Vec<u8>, SourceError>
+pub fn read_all<S: Source>(alloc: Global, source: &mut S) -> Result<Vec<u8>, Fault>
     ensures bytes { IfOk result (λ all. Consumes (S.left source.old) (S.left source.new) all.items) }
     ensures end { IfOk result (λ all. length all.items ≤ 67108864 → IsAtEnd (S.left source.new)) }
     ensures later { S.faults source.old ≤ S.faults source.new }
-    ensures cause { IfErr result (λ e. e ≡ SourceError.ReadFault → Rose (S.faults source.old) (S.faults source.new)) }
+    ensures cause { IfErr result (λ e. e ≡ Fault.Read → Rose (S.faults source.old) (S.faults source.new)) }
+    ensures faults { IfErr result (λ e. (e ≡ Fault.Read) ⊎ (e ≡ Fault.NoMemory)) }
 {
     let mut buffer = read_buffer(alloc)?;
     let mut all = Vec::new(alloc);

@@ -13,21 +13,21 @@ use Rattle.icet_plan.proofs.Lists.{filter-append, all_weaker}
 use Rattle.icet_plan.proofs.LocalRuns.{exchanges-append}
 use Rattle.icet_plan.proofs.Segments.{all_append, AreWithin, rising_append}
 use Rattle.icet_plan.proofs.FlowIsOne.{AreMatched}
-use Rattle.icet_multi.specs.Direct.{TileView, by_tile, has, hands_in, send_of, take_of, sends_for, sends_of, takes_in, takes_for, takes_of, direct_exchanges, gift, fetch, joins, folds, showing, gifts, showings, direct_program, IsTile}
+use Rattle.icet_multi.specs.Direct.{TileView, by_tile, has, hands_in, send_of, take_of, sends_for, sends_of, takes_in, takes_for, takes_of, direct_exchanges, sending, fetch, joins, folds, showing, sendings, showings, direct_program, IsTile}
 use Rattle.icet_multi.proofs.ByTile.{always, all_by_tile, none_by_tile, image_by_tile}
 use Rattle.icet_multi.proofs.Distinct.{Apart, EachOnce}
 use Rattle.icet_multi.proofs.Picked.{entry, entries, picked}
 
 -- the exchanges of the programs
-gift_exchanges : (t : ℕ) (x : TileView) (r : ℕ) → exchanges (gift t x r) ≡ sends_for t x r
-gift_exchanges t x r = go (hands_in x r)
+sending_exchanges : (t : ℕ) (x : TileView) (r : ℕ) → exchanges (sending t x r) ≡ sends_for t x r
+sending_exchanges t x r = go (hands_in x r)
   where
     go : (b : Bool) → exchanges (cond b (Load t 0 ∷ Swap (send_of t x) 0 ∷ []) []) ≡ cond b (send_of t x ∷ []) []
     go true = refl
     go false = refl
 
-gifts_exchanges : (t : ℕ) (xs : List TileView) (r : ℕ) → exchanges (gifts t xs r) ≡ sends_of t xs r
-gifts_exchanges t xs r = image_by_tile exchanges refl exchanges-append (λ n x. gift n x r) (λ n x. sends_for n x r) t xs (always (λ x. (n : ℕ) → exchanges (gift n x r) ≡ sends_for n x r) (λ x n. gift_exchanges n x r) xs)
+sendings_exchanges : (t : ℕ) (xs : List TileView) (r : ℕ) → exchanges (sendings t xs r) ≡ sends_of t xs r
+sendings_exchanges t xs r = image_by_tile exchanges refl exchanges-append (λ n x. sending n x r) (λ n x. sends_for n x r) t xs (always (λ x. (n : ℕ) → exchanges (sending n x r) ≡ sends_for n x r) (λ x n. sending_exchanges n x r) xs)
 
 fetch_exchanges : (t : ℕ) (x : TileView) (slot c : ℕ) → of_op (fetch t x slot c) ≡ cond (c == x.display) [] (take_of t x c ∷ [])
 fetch_exchanges t x slot c = go (c == x.display)
@@ -55,7 +55,7 @@ showings_exchanges : (t : ℕ) (xs : List TileView) (r : ℕ) → exchanges (sho
 showings_exchanges t xs r = image_by_tile exchanges refl exchanges-append (λ n x. showing n x r) (λ n x. takes_for n x r) t xs (always (λ x. (n : ℕ) → exchanges (showing n x r) ≡ takes_for n x r) (λ x n. showing_exchanges n x r) xs)
 
 pub program_exchanges : (xs : List TileView) (r : ℕ) → exchanges (direct_program xs r) ≡ direct_exchanges xs r
-program_exchanges xs r = exchanges-append (gifts 0 xs r) (showings 0 xs r) ∙ (ap (λ z. z ++ exchanges (showings 0 xs r)) (gifts_exchanges 0 xs r) ∙ ap (λ z. sends_of 0 xs r ++ z) (showings_exchanges 0 xs r))
+program_exchanges xs r = exchanges-append (sendings 0 xs r) (showings 0 xs r) ∙ (ap (λ z. z ++ exchanges (showings 0 xs r)) (sendings_exchanges 0 xs r) ∙ ap (λ z. sends_of 0 xs r ++ z) (showings_exchanges 0 xs r))
 
 -- what holds of each send and of each take
 all_sends : (P : Exchange → Type 0) (t : ℕ) (xs : List TileView) (r : ℕ) → AllByRecursion (λ x. (u : ℕ) → hands_in x r ≡ true → P (send_of u x)) xs → AllByRecursion P (sends_of t xs r)

@@ -14,7 +14,7 @@ use Rattle.icet_plan.proofs.FlowIsOne.{AreMatched}
 use Rattle.icet_plan.proofs.Segments.{Does}
 use Rattle.icet_plan.proofs.PlanFlows.{of_program}
 use Rattle.icet_plan.proofs.Assemble.{DoesAll, plan_matched, plan_flow, plan_sound}
-use Rattle.icet_multi.specs.Direct.{TileView, tile_bracket, direct_messages, send_of, folds, gift, gifts, showing, showings, direct_program, direct_plan, IsTile, AreTiles, IsDirect}
+use Rattle.icet_multi.specs.Direct.{TileView, tile_bracket, direct_messages, send_of, folds, sending, sendings, showing, showings, direct_program, direct_plan, IsTile, AreTiles, IsDirect}
 use Rattle.icet_multi.proofs.ByTile.{none_by_tile}
 use Rattle.icet_multi.proofs.Distinct.{Apart, EachOnce, apart_from_pairs, has_none}
 use Rattle.icet_multi.proofs.OnTiles.{all_on}
@@ -28,8 +28,8 @@ get_listed f d (suc n) first zero l = ap f (let z : first ≡ first + 0 = omega 
 get_listed f d (suc n) first (suc k) l = get_listed f d n (first + 1) k (omega arith) ∙ ap f (let z : first + 1 + k ≡ first + suc k = omega arith in z)
 
 -- a rank beyond those of the plan has nothing to do
-no_gifts : (n t : ℕ) (xs : List TileView) (r : ℕ) → n ≤ r → AllByRecursion (IsTile n) xs → gifts t xs r ≡ []
-no_gifts n t xs r l h = none_by_tile (λ m x. gift m x r) t xs (all_weaker (IsTile n) (λ x. (m : ℕ) → gift m x r ≡ []) (λ x i m.
+no_sendings : (n t : ℕ) (xs : List TileView) (r : ℕ) → n ≤ r → AllByRecursion (IsTile n) xs → sendings t xs r ≡ []
+no_sendings n t xs r l h = none_by_tile (λ m x. sending m x r) t xs (all_weaker (IsTile n) (λ x. (m : ℕ) → sending m x r ≡ []) (λ x i m.
     let away = has_none r x.contributors (all_weaker (λ c. c < n) (λ c. r ≢ c) (λ c b e. absurd (omega (arith, b, l, e))) x.contributors i.contributors) in
     ap (λ b. cond (b && not (r == x.display)) (Load m 0 ∷ Swap (send_of m x) 0 ∷ []) []) away) xs h)
 
@@ -68,7 +68,7 @@ module _ (n : ℕ) (xs : List TileView) (are : AreTiles n xs) where
   is_program : (r : ℕ) → program plan.programs r ≡ direct_program xs r
   is_program r = ⊎_elim
       (λ (l : r < n). get_listed (direct_program xs) [] n 0 r l ∙ ap (direct_program xs) (let z : 0 + r ≡ r = omega arith in z))
-      (λ (l : n ≤ r). get_or_past plan.programs r [] (omega (arith, l, count)) ∙ (sym (no_showings n 0 xs r l are.each) ∙ ap (λ ops. ops ++ showings 0 xs r) (sym (no_gifts n 0 xs r l are.each))))
+      (λ (l : n ≤ r). get_or_past plan.programs r [] (omega (arith, l, count)) ∙ (sym (no_showings n 0 xs r l are.each) ∙ ap (λ ops. ops ++ showings 0 xs r) (sym (no_sendings n 0 xs r l are.each))))
       (let s : (r < n) ⊎ (n ≤ r) = grind arith in s)
 
   runs : (r : ℕ) → Does (bracket_carrier plan.tiles.sizes r) r plan.tiles (program plan.programs r) (λ p. direct_messages xs p r) (λ _. None) (direct_runs plan.tiles plan.brackets r xs (all_on xs) once (λ _. None)).after (direct_messages xs r) (kept_from 0 xs r)

@@ -14,7 +14,7 @@ use Rattle.icet_model.specs.Fit.{Tiles}
 use Rattle.icet_model.specs.Plan.{bracket_carrier}
 use Rattle.icet_plan.proofs.Segments.{Does, does_nothing, does_both}
 use Rattle.icet_plan.proofs.SingleSteps.{does_as, load_does, blank_does, join_does, keep_does, give_does, take_does}
-use Rattle.icet_multi.specs.Direct.{TileView, by_tile, hands_in, tile_bracket, image_message, messages_for, messages_from, direct_messages, send_of, take_of, gift, fetch, joins, folds, showing, gifts, showings, direct_program}
+use Rattle.icet_multi.specs.Direct.{TileView, by_tile, hands_in, tile_bracket, image_message, messages_for, messages_from, direct_messages, send_of, take_of, sending, fetch, joins, folds, showing, sendings, showings, direct_program}
 use Rattle.icet_multi.proofs.Distinct.{Apart, EachOnce}
 use Rattle.icet_multi.proofs.Picked.{entry, entries, picked}
 use Rattle.icet_multi.proofs.OnTiles.{IsOn, AreOn}
@@ -58,8 +58,8 @@ module _ (tiles : Tiles) (brackets : List Bracket) (r : ℕ) where
   own_whole t x on = ap (λ n. record { tile = t; lo = 0; hi = n; content = Leaf r }) on.size
 
   -- a rank that hands in sends its image, and no other does anything
-  gift_runs : (t : ℕ) (x : TileView) → IsOn tiles brackets t x → (sl : Slots) → Part (gift t x r) nothing sl (messages_for t x r) []
-  gift_runs t x on sl = go (hands_in x r)
+  sending_runs : (t : ℕ) (x : TileView) → IsOn tiles brackets t x → (sl : Slots) → Part (sending t x r) nothing sl (messages_for t x r) []
+  sending_runs t x on sl = go (hands_in x r)
     where
       go : (b : Bool) → Part (cond b (Load t 0 ∷ Swap (send_of t x) 0 ∷ []) []) nothing sl (λ q. cond ((x.display == q) && b) (image_message t x r ∷ []) []) []
       go true =
@@ -76,9 +76,9 @@ module _ (tiles : Tiles) (brackets : List Bracket) (r : ℕ) where
           (fun_ext (λ q. ap (λ b. cond b (image_message t x r ∷ []) []) (sym (and-false (x.display == q)))))
           (part_nothing sl)
 
-  gifts_run : (t : ℕ) (xs : List TileView) → AreOn tiles brackets t xs → (sl : Slots) → Part (gifts t xs r) nothing sl (messages_from t xs r) []
-  gifts_run t [] on sl = part_nothing sl
-  gifts_run t (x ∷ xs) on sl = part_both (gift t x r) (gifts (suc t) xs r) nothing nothing sl (messages_for t x r) (messages_from (suc t) xs r) [] [] (gift_runs t x on.0 sl) (λ s. gifts_run (suc t) xs on.1 s)
+  sendings_run : (t : ℕ) (xs : List TileView) → AreOn tiles brackets t xs → (sl : Slots) → Part (sendings t xs r) nothing sl (messages_from t xs r) []
+  sendings_run t [] on sl = part_nothing sl
+  sendings_run t (x ∷ xs) on sl = part_both (sending t x r) (sendings (suc t) xs r) nothing nothing sl (messages_for t x r) (messages_from (suc t) xs r) [] [] (sending_runs t x on.0 sl) (λ s. sendings_run (suc t) xs on.1 s)
 
   module _ (t : ℕ) (x : TileView) (on : IsOn tiles brackets t x) (mine : x.display ≡ r) where
     -- the messages that the display takes for these contributors
@@ -155,4 +155,4 @@ module _ (tiles : Tiles) (brackets : List Bracket) (r : ℕ) where
   direct_runs xs on once sl =
       part_as (direct_program xs r) (λ p. direct_messages xs p r) (λ p. direct_messages xs p r) sl (λ q. direct_messages xs r q ++ []) (direct_messages xs r) (kept_from 0 xs r) refl
       (fun_ext (λ q. append-nil (direct_messages xs r q)))
-      (part_both (gifts 0 xs r) (showings 0 xs r) nothing (λ p. direct_messages xs p r) sl (direct_messages xs r) nothing [] (kept_from 0 xs r) (gifts_run 0 xs on sl) (λ s. showings_run 0 xs on once s))
+      (part_both (sendings 0 xs r) (showings 0 xs r) nothing (λ p. direct_messages xs p r) sl (direct_messages xs r) nothing [] (kept_from 0 xs r) (sendings_run 0 xs on sl) (λ s. showings_run 0 xs on once s))

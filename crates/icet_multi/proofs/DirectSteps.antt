@@ -3,7 +3,7 @@ use Rattle.std.proofs.Common.{◌≡◌, ℕ, zero, suc, ◌+◌, ◌*◌, ◌<�
 use Rattle.std.specs.List.{AllByRecursion, range_with_len}
 use Rattle.std.specs.Prelude.{◌==◌}
 use Rattle.icet_model.specs.declared.exchange.Op.TheVariants.{Load, Join, Swap, Keep}
-use Rattle.icet_multi.specs.Direct.{TileView, hands_in, send_of, fetch, joins, folds, gift, gifts, showing, showings, direct_program}
+use Rattle.icet_multi.specs.Direct.{TileView, hands_in, send_of, fetch, joins, folds, sending, sendings, showing, showings, direct_program}
 use Rattle.icet_model.proofs.Lists.{made_more}
 use Rattle.icet_plan.proofs.Lists.{all_weaker}
 use Rattle.icet_multi.proofs.ByTile.{always, length_by_tile}
@@ -31,8 +31,8 @@ pub listed_more : {V : Type 0} (f : ℕ → V) (n : ℕ) → map f (range_with_l
 listed_more = made_more
 
 -- how long they are
-gift_length : (t : ℕ) (x : TileView) (r : ℕ) → length (gift t x r) ≤ 2
-gift_length t x r = go (hands_in x r)
+sending_length : (t : ℕ) (x : TileView) (r : ℕ) → length (sending t x r) ≤ 2
+sending_length t x r = go (hands_in x r)
   where
     go : (b : Bool) → length (cond b (Load t 0 ∷ Swap (send_of t x) 0 ∷ []) []) ≤ 2
     go true = omega arith
@@ -55,6 +55,6 @@ showing_length t x r = go (x.display == r)
 
 pub program_length : (xs : List TileView) (r : ℕ) → AllByRecursion (λ x. length x.contributors ≤ 64) xs → length (direct_program xs r) ≤ 132 * length xs
 program_length xs r few =
-    let given = length_by_tile 2 (λ t x. gift t x r) 0 xs (always (λ x. (t : ℕ) → length (gift t x r) ≤ 2) (λ x t. gift_length t x r) xs) in
+    let given = length_by_tile 2 (λ t x. sending t x r) 0 xs (always (λ x. (t : ℕ) → length (sending t x r) ≤ 2) (λ x t. sending_length t x r) xs) in
     let shown = length_by_tile 130 (λ t x. showing t x r) 0 xs (all_weaker (λ x. length x.contributors ≤ 64) (λ x. (t : ℕ) → length (showing t x r) ≤ 130) (λ x l t. omega (arith, l, showing_length t x r)) xs few) in
-    omega (arith, given, shown, length-append (gifts 0 xs r) (showings 0 xs r))
+    omega (arith, given, shown, length-append (sendings 0 xs r) (showings 0 xs r))

@@ -37,12 +37,12 @@ tile_bracket x = left (map (λ c. Leaf c) x.contributors)
 abbrev pub image_message : ℕ → TileView → ℕ → MessageView Bracket
 image_message t x q = record { round = 0; from = q; to = x.display; piece = record { tile = t; lo = 0; hi = x.size; content = Leaf q } }
 
--- what there is for each tile, by tile; t is the number of the first
+-- what each tile gives, one tile after the other; t is the number of the first
 abbrev pub by_tile : {A : Type 0} → (ℕ → TileView → List A) → ℕ → List TileView → List A
 by_tile of_tile t [] = []
 by_tile of_tile t (x ∷ xs) = of_tile t x ++ by_tile of_tile (suc t) xs
 
--- the messages from q to r, one tile's and by tile
+-- the messages from q to r, of one tile and of all
 abbrev pub messages_for : ℕ → TileView → Messages Bracket
 messages_for t x q r = cond ((x.display == r) && hands_in x q) (image_message t x q ∷ []) []
 
@@ -60,7 +60,7 @@ send_of t x = record { round = 0; kind = Send; peer = x.display; tile = t; lo = 
 abbrev pub take_of : ℕ → TileView → ℕ → Exchange
 take_of t x q = record { round = 0; kind = Take; peer = q; tile = t; lo = 0; hi = x.size }
 
--- the sends of rank r, one tile's and by tile
+-- the sends of rank r, of one tile and of all
 abbrev pub sends_for : ℕ → TileView → ℕ → List Exchange
 sends_for t x r = cond (hands_in x r) (send_of t x ∷ []) []
 
@@ -72,7 +72,7 @@ abbrev pub takes_in : ℕ → TileView → List ℕ → List Exchange
 takes_in t x [] = []
 takes_in t x (c ∷ cs) = cond (c == x.display) [] (take_of t x c ∷ []) ++ takes_in t x cs
 
--- the takes of rank r, one tile's and by tile
+-- the takes of rank r, of one tile and of all
 abbrev pub takes_for : ℕ → TileView → ℕ → List Exchange
 takes_for t x r = cond (x.display == r) (takes_in t x x.contributors) []
 
@@ -84,8 +84,8 @@ abbrev pub direct_exchanges : List TileView → ℕ → List Exchange
 direct_exchanges tiles r = sends_of 0 tiles r ++ takes_of 0 tiles r
 
 -- hands in the own image of tile t, if it is to
-abbrev pub gift : ℕ → TileView → ℕ → List Op
-gift t x r = cond (hands_in x r) (Load t 0 ∷ Swap (send_of t x) 0 ∷ []) []
+abbrev pub sending : ℕ → TileView → ℕ → List Op
+sending t x r = cond (hands_in x r) (Load t 0 ∷ Swap (send_of t x) 0 ∷ []) []
 
 -- puts the image of one contributor into a slot of the display
 abbrev pub fetch : ℕ → TileView → ℕ → ℕ → Op
@@ -104,14 +104,14 @@ folds t x (c ∷ cs) = fetch t x 0 c ∷ joins t x cs
 abbrev pub showing : ℕ → TileView → ℕ → List Op
 showing t x r = cond (x.display == r) (folds t x x.contributors ++ Keep 0 ∷ []) []
 
-abbrev pub gifts : ℕ → List TileView → ℕ → List Op
-gifts t tiles r = by_tile (λ n x. gift n x r) t tiles
+abbrev pub sendings : ℕ → List TileView → ℕ → List Op
+sendings t tiles r = by_tile (λ n x. sending n x r) t tiles
 
 abbrev pub showings : ℕ → List TileView → ℕ → List Op
 showings t tiles r = by_tile (λ n x. showing n x r) t tiles
 
 abbrev pub direct_program : List TileView → ℕ → List Op
-direct_program tiles r = gifts 0 tiles r ++ showings 0 tiles r
+direct_program tiles r = sendings 0 tiles r ++ showings 0 tiles r
 
 -- the tile's ranks are ranks of the plan, and no contributor stands twice
 pub record IsTile (ranks : ℕ) (x : TileView) : Type 0 where

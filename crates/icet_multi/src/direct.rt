@@ -1,6 +1,6 @@
 ghost use Rattle.std.specs.Prelude.{◌≡◌, ◌≤◌, ◌<◌, ◌^◌, ◌++◌, [], ◌∷◌, ℕ, IfOk, map, length};
 ghost use Rattle.std.specs.List.{range_with_len};
-ghost use Rattle.icet_multi.specs.Direct.{AreTiles, IsDirect, IsTile, TileView, direct_plan, direct_program, fetch, folds, gift, gifts, send_of, showing, showings, take_of, tile_bracket};
+ghost use Rattle.icet_multi.specs.Direct.{AreTiles, IsDirect, IsTile, TileView, direct_plan, direct_program, fetch, folds, sending, sendings, send_of, showing, showings, take_of, tile_bracket};
 
 use crate::TileRanks;
 use icet_base::{NoMemory, Rank};
@@ -80,17 +80,17 @@ fn ops_of(alloc: Global, rank: Rank, tiles: &[TileRanks]) -> Result<Vec<Op>, NoM
     ensures { IfOk result (λ ops. ops.items ≡ direct_program tiles.now rank) }
 {
     let mut ops = Vec::new(alloc);
-    push_gifts(&mut ops, rank, tiles)?;
+    push_sendings(&mut ops, rank, tiles)?;
     push_showings(&mut ops, rank, tiles)?;
     Ok(ops)
 }
 
-fn push_gifts(ops: &mut Vec<Op>, rank: Rank, tiles: &[TileRanks]) -> Result<(), NoMemory>
+fn push_sendings(ops: &mut Vec<Op>, rank: Rank, tiles: &[TileRanks]) -> Result<(), NoMemory>
     requires { length tiles.now ≤ 16 }
-    ensures { IfOk result (λ _. ops.new.items ≡ ops.old.items ++ gifts 0 tiles.now rank) }
+    ensures { IfOk result (λ _. ops.new.items ≡ ops.old.items ++ sendings 0 tiles.now rank) }
 {
     for t in 0..tiles.len() {
-        push_gift(ops, rank, t as u32, &tiles[t])?;
+        push_sending(ops, rank, t as u32, &tiles[t])?;
     }
     Ok(())
 }
@@ -106,8 +106,8 @@ fn push_showings(ops: &mut Vec<Op>, rank: Rank, tiles: &[TileRanks]) -> Result<(
 }
 
 // hands the rank's image of a tile to the display, if it contributes and isn't the display itself
-fn push_gift(ops: &mut Vec<Op>, rank: Rank, t: u32, tile: &TileRanks) -> Result<(), NoMemory>
-    ensures { IfOk result (λ _. ops.new.items ≡ ops.old.items ++ gift t tile.now rank) }
+fn push_sending(ops: &mut Vec<Op>, rank: Rank, t: u32, tile: &TileRanks) -> Result<(), NoMemory>
+    ensures { IfOk result (λ _. ops.new.items ≡ ops.old.items ++ sending t tile.now rank) }
 {
     if tile.hands_in(rank) {
         ops.push(Op::Load { tile: t, slot: 0 })?;

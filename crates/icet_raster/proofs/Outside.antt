@@ -1,8 +1,6 @@
 -- Where a fragment is drawn the box has the pixel, so nothing is drawn outside the box.
-use Rattle.std.proofs.Common.{◌≡◌, ℕ, ◌+◌, ◌*◌, ◌/◌, ◌%◌, ◌<◌, ℤ, pos, ◌≤ℤ◌, ◌<ℤ◌, true, false, List, [], ◌∷◌, replicate, refl, sym, ap, ◌∙◌, subst, arith, Option, Some, None}
+use Rattle.std.proofs.Common.{◌≡◌, ℕ, ◌+◌, ◌*◌, ◌/◌, ◌%◌, ◌<◌, ℤ, pos, true, false, List, [], ◌∷◌, replicate, refl, sym, ap, ◌∙◌, subst, arith, Option, Some, None}
 use Rattle.std.specs.Prelude.{fold}
-use Rattle.std.specs.Int.{int_max, int_min}
-use Rattle.std.specs.Int.Signed.{lt_z}
 use Rattle.std.proofs.Math.Nat.{mul-le-mul_left}
 use Rattle.std.proofs.lemmas.Int.{ints, clamps}
 use Rattle.std.proofs.lemmas.Bool.Decides.{nat_tests}
@@ -11,7 +9,7 @@ use Rattle.icet_model.specs.declared.names.Mode.TheVariants.{Depth}
 use Rattle.icet_model.specs.declared.names.Rect.{Rect}
 use Rattle.icet_model.specs.Pixel.{FragmentView, Pixel}
 use Rattle.icet_model.specs.Raster.{Drawing, Point, Area, gives, drawn_over, drawn, full_image}
-use Rattle.icet_model.specs.Boxes.{right_of, bottom_of, HasPixel, meets, hull, hull_of, bounds, box, rect_of, reaches_into}
+use Rattle.icet_model.specs.Boxes.{HasPixel, hull, hull_of, bounds, box, rect_of, reaches_into}
 use Rattle.icet_raster.specs.Boxes.{CoversPixel}
 use Rattle.icet_raster.proofs.Hulls.{box_from, right-hull, bottom-hull}
 use Rattle.icet_raster.proofs.FullImages.{map_same, blanks, wide}

@@ -255,13 +255,17 @@ fn entries_of<R: Threads + Sync>(
     })
 }
 
-// At most a turn for each exchange, a send and a take a message, and one more: 1, 3 and 5 turns, which each
-// rank enters once.
+// At least one turn, and at most one for each exchange, a send and a take a message, and one more: 1, 3 and 5
+// turns. Each rank enters once a turn.
 #[test]
 fn a_run_takes_few_turns(rt: HostRuntime) {
-    for (scene, most) in [(POINT, 1), (TWO_RANKS, 3 * 2), (THREE_RANKS, 5 * 3)] {
+    for (scene, least, most) in [
+        (POINT, 1, 1),
+        (TWO_RANKS, 2, 3 * 2),
+        (THREE_RANKS, 3, 5 * 3),
+    ] {
         let entries = entries_of(&rt, rt.alloc(), scene);
-        let are_few = matches!(entries, Ok(Some(count)) if count <= most);
+        let are_few = matches!(entries, Ok(Some(count)) if least <= count && count <= most);
         assert!(rt; are_few, "{scene}");
     }
 }

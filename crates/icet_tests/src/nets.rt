@@ -104,10 +104,8 @@ fn shows<R: Threads + Sync>(
         return Ok(false);
     };
     let entries = gate.entries();
-    let is_shown = pictures
-        .as_slice()
-        .iter()
-        .all(|picture| picture.as_slice() == want.as_slice());
+    let is_shown =
+        matches!(pictures.as_slice(), [picture] if picture.as_slice() == want.as_slice());
     Ok(rank == Rank(0) && is_shown && entries[0] <= turns && entries[1] == entries[0])
 }
 

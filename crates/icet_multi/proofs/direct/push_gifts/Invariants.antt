@@ -1,6 +1,0 @@
-use Rattle.std.proofs.Common.{◌≡◌, ◌++◌, take}
-use Rattle.icet_multi.specs.Direct.{gifts}
-use Rattle.icet_multi.proofs.direct.push_gifts.Given as goal
-
-abbrev pub invariant-loop-t : goal.invariant-loop-t
-invariant-loop-t l = l.ops.items ≡ l.fn.ops.items ++ gifts 0 (take l.t l.tiles) l.rank
