@@ -1,14 +1,13 @@
 //! The program `icet`: composites what parallel renderers drew apart.
 #![tactic(auto)]
 
-ghost use Rattle.std.specs.Prelude.{◌≡◌, ◌⊎◌, IfOk, codes, map, string_bytes};
+ghost use Rattle.std.specs.Prelude.{◌≡◌, IfNone, IfOk, codes};
+ghost use Rattle.icet.specs.Arguments.{texts_of, RunsOn};
 ghost use Rattle.icet_cli.specs.Notes.{HasNoted};
-ghost use Rattle.icet_cli.specs.Outcome.{RunsTo};
+ghost use Rattle.icet_cli.specs.Outcome.{outside, texts};
 
 use icet_base::{PlainGate, Sink, Source, StdSink, StdSource};
-use icet_cli::fault::Fault;
-use icet_cli::notes::note_fault;
-use icet_cli::{Status, run};
+use icet_cli::{RunFault, Status, note_fault, run};
 use icet_ring::{MemWires, Wires};
 use std::alloc::{AllocError, Global};
 use std::process::ExitCode;
@@ -31,7 +30,8 @@ fn main(rt: HostRuntime) -> ExitCode {
             &mut sink,
             &mut notes,
             &mut wires,
-        ),
+        )
+        .unwrap_or(Status::NoMemory),
         Err(refusal) => refuse(refusal, &mut notes),
     };
     ExitCode::from(status.number())
@@ -60,19 +60,20 @@ fn arguments(alloc: Global, args: io::Result<env::Args>) -> Result<Vec<String>, 
 
 /// Words that aren't Unicode are refused words; where they can't be held, nothing is written.
 fn refuse<N: Sink>(refusal: Refusal, notes: &mut N) -> Status
-    ensures refused { refusal ≡ Refusal.NotUnicode → (result ≡ Status.WordsRefused) × HasNoted (N.written notes.old) (N.written notes.new) (N.faults notes.old) (N.faults notes.new) (codes "icet: words refused\n") }
+    ensures refused { refusal ≡ Refusal.NotUnicode → (result ≡ Status.WordsRefused)
+        × HasNoted (N.told notes.old) (N.told notes.new) (codes "icet: words refused\n") }
     ensures wanting { refusal ≡ Refusal.NoMemory → (result ≡ Status.NoMemory) × (notes.new ≡ notes.old) }
 {
     match refusal {
         Refusal::NotUnicode => {
-            note_fault(notes, Fault::Words);
+            note_fault(notes, RunFault::Words);
             Status::WordsRefused
         }
         Refusal::NoMemory => Status::NoMemory,
     }
 }
 
-/// Runs the command that these arguments are. Where they can't be held, nothing is done.
+/// Runs the command that these arguments are. None where they can't be held, and then nothing is done.
 fn run_on<S: Source, K: Sink, N: Sink, W: Wires, R: Threads + Sync>(
     rt: &R,
     alloc: Global,
@@ -81,11 +82,15 @@ fn run_on<S: Source, K: Sink, N: Sink, W: Wires, R: Threads + Sync>(
     sink: &mut K,
     notes: &mut N,
     wires: &mut W,
-) -> Status
-    ensures { RunsTo (map (λ argument. string_bytes argument) arguments.now) (record { left = S.left source.old; read_faults = S.faults source.old; written = K.written sink.old; write_faults = K.faults sink.old; noted = N.written notes.old; note_faults = N.faults notes.old; log = W.log wires.old }) (record { left = S.left source.new; read_faults = S.faults source.new; written = K.written sink.new; write_faults = K.faults sink.new; noted = N.written notes.new; note_faults = N.faults notes.new; log = W.log wires.new }) result ⊎ ((result ≡ Status.NoMemory) × (source.new ≡ source.old) × (sink.new ≡ sink.old) × (notes.new ≡ notes.old) × (wires.new ≡ wires.old)) }
+) -> Option<Status>
+    ensures runs { RunsOn arguments.now
+        (outside (S.told source.old) (K.told sink.old) (N.told notes.old) (W.log wires.old))
+        (outside (S.told source.new) (K.told sink.new) (N.told notes.new) (W.log wires.new)) result }
+    ensures ends { IfNone result ((source.new ≡ source.old) × (sink.new ≡ sink.old) × (notes.new ≡ notes.old)) }
+    ensures wires { IfNone result (wires.new ≡ wires.old) }
 {
     match texts_of(alloc, arguments) {
-        Ok(words) => run(
+        Ok(words) => Some(run(
             rt,
             alloc,
             words.as_slice(),
@@ -94,14 +99,14 @@ fn run_on<S: Source, K: Sink, N: Sink, W: Wires, R: Threads + Sync>(
             notes,
             wires,
             &PlainGate,
-        ),
-        Err(_) => Status::NoMemory,
+        )),
+        Err(_) => None,
     }
 }
 
 /// The arguments as texts.
 fn texts_of<'a>(alloc: Global, arguments: &'a [String]) -> Result<Vec<&'a str>, AllocError>
-    ensures { IfOk result (λ words. map (λ word. word.now) words.items ≡ map (λ argument. string_bytes argument) arguments.now) }
+    ensures { IfOk result (λ words. texts words.items ≡ texts_of arguments.now) }
 {
     let mut words = Vec::new(alloc);
     for argument in arguments {

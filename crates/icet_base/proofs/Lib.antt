@@ -1,2 +1,2 @@
-pub mod Appended
-pub mod MemoryLemmas
+pub mod GrowingBytes
+pub mod ReadBytes

@@ -1,21 +1,29 @@
--- The text of a pen, and what a call leaves of it. `written` stands for what the pen's sink tells.
-use Rattle.std.specs.Prelude.{ℕ, ◌≤◌, List, length, take, Option, Result, OnOk, OnErr}
+-- The text of a pen, and what a put does to it. `told` is what a sink of its kind tells.
+use Rattle.std.specs.Prelude.{◌≡◌, ℕ, ◌≤◌, List, length, take, Option, Result, OnOk, OnErr, is_err}
 use Rattle.std.specs.Io.KnownBytes.{append_known, Appends}
 use Rattle.icet_model.specs.Bytes.{Extends, HasFront}
+use Rattle.icet_model.specs.Faults.{HasCause}
+use Rattle.icet_model.specs.Streams.{SinkView}
+use Rattle.icet_base.specs.declared.faults.WriteFault.{WriteFault}
+use Rattle.icet_base.specs.declared.pen.Pen.{Pen}
 
--- what the sink has written, followed by the bytes that wait in the pen
-abbrev pub text_of : Option (List ℕ) → List ℕ → Option (List ℕ)
-text_of written waiting = append_known written waiting
+-- what the sink has written, and then the bytes that wait in the pen
+abbrev pub text_of : {K : Type 0} → (K → SinkView) → Pen K → Option (List ℕ)
+text_of told pen = append_known (told pen.sink.now).written pen.waiting.items
 
--- a call that puts these bytes: at Ok the text grew by them; at a fault the sink holds a front of
--- the text followed by them; what was written stays at the front
-pub record Puts {E : Type 0} (result : Result (Unit {0}) E) (written_old written_new text_old text_new : Option (List ℕ)) (bytes : List ℕ) : Type 0 where
-  pub grew : OnOk result (Appends text_old text_new bytes)
-  pub within : OnErr result (HasFront (append_known text_old bytes) written_new)
-  pub extends : Extends written_old written_new
+-- a call that puts these bytes: at Ok the text grew by them; at a fault the sink holds a front of the
+-- text followed by them, and the pen has failed; what was written stays at the front, and the pen
+-- keeps its sink
+pub record Puts {K : Type 0} (told : K → SinkView) (old new : Pen K) (result : Result (Unit {0}) WriteFault) (bytes : List ℕ) : Type 0 where
+  pub grew : OnOk result (Appends (text_of told old) (text_of told new) bytes)
+  pub within : OnErr result (HasFront (append_known (text_of told old) bytes) (told new.sink.now).written)
+  pub extends : Extends (told old.sink.now).written (told new.sink.now).written
+  pub cause : HasCause (told old.sink.now).faults (told new.sink.now).faults result
+  pub failed : new.failed ≡ is_err result
+  pub same_reference : new.sink.ghost_name ≡ old.sink.ghost_name
 
--- the first so many bytes of a piece are written
-pub record Writing (written_old written : Option (List ℕ)) (faults_old faults : ℕ) (piece : List ℕ) (at : ℕ) : Type 0 where
+-- the first so many bytes of a piece are written, and nothing failed
+pub record Writing (old new : SinkView) (piece : List ℕ) (at : ℕ) : Type 0 where
   pub within : at ≤ length piece
-  pub grew : Appends written_old written (take at piece)
-  pub later : faults_old ≤ faults
+  pub grew : Appends old.written new.written (take at piece)
+  pub well : new.faults ≡ old.faults

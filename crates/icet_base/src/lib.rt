@@ -3,7 +3,6 @@
 
 pub mod faults;
 pub mod gate;
-pub mod limits;
 pub mod memory;
 pub mod pen;
 pub mod sink;
@@ -12,6 +11,7 @@ pub mod std_io;
 
 pub use faults::{NoMemory, ReadFault, WriteFault};
 pub use gate::{Gate, PlainGate};
+pub use icet_model::limits;
 pub use icet_model::names::{Mode, Rank, Rect};
 pub use memory::{MemSink, MemSource, SureSink, SureSource};
 pub use pen::Pen;

@@ -1,7 +1,6 @@
-ghost use Rattle.std.specs.Prelude.{◌≡◌, ◌<◌, ◌≤◌, ◌+◌, ◌-◌, ◌^◌, min, [], Some, None, Ok, IfOk, IsOk, is_err, length};
-ghost use Rattle.std.specs.Io.KnownBytes.{ReadConsumes, WriteAppends, Keeps};
-ghost use Rattle.icet_model.specs.Faults.{HasCause};
-ghost use Rattle.icet_base.specs.Memory.{is_listed, read_answer, write_answer};
+ghost use Rattle.std.specs.Prelude.{◌≡◌, ◌<◌, ◌+◌, ◌-◌, ◌^◌, min, [], Ok, OnErr, IfOk, IsOk, is_err, length};
+ghost use Rattle.icet_model.specs.Streams.{Reads, Writes, Flushes};
+ghost use Rattle.icet_base.specs.Memory.{is_listed, read_answer, silent_view, sink_view, source_view, sure_source_view, write_answer};
 
 use crate::faults::{NoMemory, ReadFault, WriteFault};
 use crate::sink::Sink;
@@ -23,9 +22,9 @@ pub struct MemSource {
 
 impl Model for MemSource {
     ghost use Rattle.std.specs.Prelude.{◌<◌, ◌≤◌, length, drop};
-    ghost use Rattle.icet_base.specs.Memory.{SourceView};
+    ghost use Rattle.icet_base.specs.Memory.{MemSourceView};
 
-    ghost Value = { SourceView };
+    ghost Value = { MemSourceView };
 
     ghost view = { λ s. record { left = drop s.at s.bytes.items; most = s.most; fails = s.fails.items; calls = s.calls; faults = s.faults } };
 
@@ -51,15 +50,11 @@ impl MemSource {
 }
 
 impl Source for MemSource {
-    ghost left = { λ s. Some s.left };
-
-    ghost faults = { λ s. s.faults };
+    ghost told = { source_view };
 
     fn read(&mut self, buf: &mut [u8]) -> Result<usize, ReadFault>
         requires { 0 < length buf.old }
-        ensures count { IfOk result (λ n. n ≤ length buf.old) }
-        ensures bytes { ReadConsumes (Some self.old.left) (Some self.new.left) result buf.new }
-        ensures cause { HasCause self.old.faults self.new.faults result }
+        ensures reads { Reads (source_view self.old) (source_view self.new) result buf.new }
         ensures answer { result ≡ read_answer self.old (length buf.old) }
         ensures calls { self.new.calls ≡ min (self.old.calls + 1) (2 ^ 64 - 1) }
         ensures same { (self.new.most ≡ self.old.most) × (self.new.fails ≡ self.old.fails) }
@@ -91,9 +86,9 @@ pub struct MemSink {
 
 impl Model for MemSink {
     ghost use Rattle.std.specs.Prelude.{◌<◌, ◌≤◌, ◌+◌, vec_len, vec_capacity};
-    ghost use Rattle.icet_base.specs.Memory.{SinkView};
+    ghost use Rattle.icet_base.specs.Memory.{MemSinkView};
 
-    ghost Value = { SinkView };
+    ghost Value = { MemSinkView };
 
     ghost view = { λ s. record { written = s.bytes.items; room = s.room; most = s.most; fails = s.fails.items; calls = s.calls; faults = s.faults } };
 
@@ -132,18 +127,15 @@ impl MemSink {
 }
 
 impl Sink for MemSink {
-    ghost written = { λ s. Some s.written };
-
-    ghost faults = { λ s. s.faults };
+    ghost told = { sink_view };
 
     fn write(&mut self, piece: &[u8]) -> Result<usize, WriteFault>
         requires { 0 < length piece.now }
-        ensures count { IfOk result (λ n. (0 < n) × (n ≤ length piece.now)) }
-        ensures bytes { WriteAppends (Some self.old.written) (Some self.new.written) result piece.now }
-        ensures cause { HasCause self.old.faults self.new.faults result }
+        ensures writes { Writes (sink_view self.old) (sink_view self.new) result piece.now }
         ensures answer { result ≡ write_answer self.old (length piece.now) }
         ensures calls { self.new.calls ≡ min (self.old.calls + 1) (2 ^ 64 - 1) }
         ensures room { IfOk result (λ n. self.new.room + n ≡ self.old.room) }
+        ensures kept { OnErr result (self.new.room ≡ self.old.room) }
         ensures same { (self.new.most ≡ self.old.most) × (self.new.fails ≡ self.old.fails) }
     {
         let call = self.calls;
@@ -163,8 +155,7 @@ impl Sink for MemSink {
     }
 
     fn flush(&mut self) -> Result<(), WriteFault>
-        ensures same { Keeps (Some self.old.written) (Some self.new.written) }
-        ensures cause { HasCause self.old.faults self.new.faults result }
+        ensures flushes { Flushes (sink_view self.old) (sink_view self.new) result }
         ensures answer { is_err result ≡ is_listed self.old.calls self.old.fails }
         ensures calls { self.new.calls ≡ min (self.old.calls + 1) (2 ^ 64 - 1) }
         ensures others { (self.new.room ≡ self.old.room) × ((self.new.most ≡ self.old.most) × (self.new.fails ≡ self.old.fails)) }
@@ -187,9 +178,9 @@ pub struct SureSource {
 
 impl Model for SureSource {
     ghost use Rattle.std.specs.Prelude.{◌≡◌, []};
-    ghost use Rattle.icet_base.specs.Memory.{SureView};
+    ghost use Rattle.icet_base.specs.Memory.{SureSourceView};
 
-    ghost Value = { SureView };
+    ghost Value = { SureSourceView };
 
     ghost view = { λ s. record { left = s.inner.left; most = s.inner.most } };
 
@@ -209,15 +200,11 @@ impl SureSource {
 }
 
 impl Source for SureSource {
-    ghost left = { λ s. Some s.left };
-
-    ghost faults = { λ _. 0 };
+    ghost told = { sure_source_view };
 
     fn read(&mut self, buf: &mut [u8]) -> Result<usize, ReadFault>
         requires { 0 < length buf.old }
-        ensures count { IfOk result (λ n. n ≤ length buf.old) }
-        ensures bytes { ReadConsumes (Some self.old.left) (Some self.new.left) result buf.new }
-        ensures cause { HasCause 0 0 result }
+        ensures reads { Reads (sure_source_view self.old) (sure_source_view self.new) result buf.new }
         ensures answer { result ≡ Ok (min (min self.old.most (length buf.old)) (length self.old.left)) }
         ensures same { self.new.most ≡ self.old.most }
     {
@@ -239,23 +226,18 @@ impl SureSink {
 }
 
 impl Sink for SureSink {
-    ghost written = { λ _. None };
-
-    ghost faults = { λ _. 0 };
+    ghost told = { λ _. silent_view };
 
     fn write(&mut self, piece: &[u8]) -> Result<usize, WriteFault>
         requires { 0 < length piece.now }
-        ensures count { IfOk result (λ n. (0 < n) × (n ≤ length piece.now)) }
-        ensures bytes { WriteAppends None None result piece.now }
-        ensures cause { HasCause 0 0 result }
+        ensures writes { Writes silent_view silent_view result piece.now }
         ensures whole { result ≡ Ok (length piece.now) }
     {
         Ok(piece.len())
     }
 
     fn flush(&mut self) -> Result<(), WriteFault>
-        ensures same { Keeps None None }
-        ensures cause { HasCause 0 0 result }
+        ensures flushes { Flushes silent_view silent_view result }
         ensures done { IsOk result }
     {
         Ok(())

@@ -1,8 +1,6 @@
-ghost use Rattle.std.specs.Prelude.{◌≡◌, ◌++◌, [], false, OnOk, OnErr, is_err, decimal};
-ghost use Rattle.std.specs.Io.KnownBytes.{Keeps};
-ghost use Rattle.icet_model.specs.Bytes.{Extends, HasFront};
-ghost use Rattle.icet_model.specs.Faults.{HasCause};
-ghost use Rattle.icet_base.specs.PenText.{text_of, Puts};
+ghost use Rattle.std.specs.Prelude.{◌≡◌, ◌++◌, [], false, is_err, decimal};
+ghost use Rattle.icet_model.specs.Streams.{WritesAll};
+ghost use Rattle.icet_base.specs.PenText.{Puts};
 
 use crate::faults::WriteFault;
 use crate::sink::Sink;
@@ -40,10 +38,7 @@ impl<'a, K: Sink> Pen<'a, K> {
     /// Puts the bytes behind the text.
     pub fn put(&mut self, bytes: &[u8]) -> Result<(), WriteFault>
         requires { self.old.failed ≡ false }
-        ensures puts { Puts result (K.written self.old.sink.now) (K.written self.new.sink.now) (text_of (K.written self.old.sink.now) self.old.waiting.items) (text_of (K.written self.new.sink.now) self.new.waiting.items) bytes.now }
-        ensures cause { HasCause (K.faults self.old.sink.now) (K.faults self.new.sink.now) result }
-        ensures failed { self.new.failed ≡ is_err result }
-        ensures same_reference { self.new.sink.ghost_name ≡ self.old.sink.ghost_name }
+        ensures { Puts K.told self.old self.new result bytes.now }
     {
         match self.waiting.try_extend_from_slice(bytes) {
             Ok(()) => Ok(()),
@@ -57,30 +52,24 @@ impl<'a, K: Sink> Pen<'a, K> {
     /// Puts the decimal text of the number behind the text.
     pub fn number(&mut self, n: u64) -> Result<(), WriteFault>
         requires { self.old.failed ≡ false }
-        ensures puts { Puts result (K.written self.old.sink.now) (K.written self.new.sink.now) (text_of (K.written self.old.sink.now) self.old.waiting.items) (text_of (K.written self.new.sink.now) self.new.waiting.items) (decimal n) }
-        ensures cause { HasCause (K.faults self.old.sink.now) (K.faults self.new.sink.now) result }
-        ensures failed { self.new.failed ≡ is_err result }
-        ensures same_reference { self.new.sink.ghost_name ≡ self.old.sink.ghost_name }
+        ensures { Puts K.told self.old self.new result (decimal n) }
     {
         let mut buffer = Buffer::new();
         self.put(buffer.format(n).as_bytes())
     }
 
     /// Puts these bytes and then the decimal text of the number behind the text.
-    #[tactic(auto, using(crate::proofs::Appended::puts_then, crate::proofs::Appended::puts_failed))]
+    #[tactic(auto, using(crate::proofs::GrowingBytes::puts_then, crate::proofs::GrowingBytes::puts_failed))]
     pub fn put_number(&mut self, before: &[u8], n: u64) -> Result<(), WriteFault>
         requires { self.old.failed ≡ false }
-        ensures puts { Puts result (K.written self.old.sink.now) (K.written self.new.sink.now) (text_of (K.written self.old.sink.now) self.old.waiting.items) (text_of (K.written self.new.sink.now) self.new.waiting.items) (before.now ++ decimal n) }
-        ensures cause { HasCause (K.faults self.old.sink.now) (K.faults self.new.sink.now) result }
-        ensures failed { self.new.failed ≡ is_err result }
-        ensures same_reference { self.new.sink.ghost_name ≡ self.old.sink.ghost_name }
+        ensures { Puts K.told self.old self.new result (before.now ++ decimal n) }
     {
         self.put(before)?;
         self.number(n)
     }
 
     /// Puts the decimal text of the number between these bytes behind the text.
-    #[tactic(auto, using(crate::proofs::Appended::puts_then, crate::proofs::Appended::puts_failed))]
+    #[tactic(auto, using(crate::proofs::GrowingBytes::puts_then, crate::proofs::GrowingBytes::puts_failed))]
     pub fn put_number_between(
         &mut self,
         before: &[u8],
@@ -88,10 +77,7 @@ impl<'a, K: Sink> Pen<'a, K> {
         behind: &[u8],
     ) -> Result<(), WriteFault>
         requires { self.old.failed ≡ false }
-        ensures puts { Puts result (K.written self.old.sink.now) (K.written self.new.sink.now) (text_of (K.written self.old.sink.now) self.old.waiting.items) (text_of (K.written self.new.sink.now) self.new.waiting.items) ((before.now ++ decimal n) ++ behind.now) }
-        ensures cause { HasCause (K.faults self.old.sink.now) (K.faults self.new.sink.now) result }
-        ensures failed { self.new.failed ≡ is_err result }
-        ensures same_reference { self.new.sink.ghost_name ≡ self.old.sink.ghost_name }
+        ensures { Puts K.told self.old self.new result ((before.now ++ decimal n) ++ behind.now) }
     {
         self.put_number(before, n)?;
         self.put(behind)
@@ -100,11 +86,8 @@ impl<'a, K: Sink> Pen<'a, K> {
     /// Writes what waits.
     fn write_waiting(&mut self) -> Result<(), WriteFault>
         requires { self.old.failed ≡ false }
-        ensures ok { OnOk result (Keeps (text_of (K.written self.old.sink.now) self.old.waiting.items) (K.written self.new.sink.now)) }
-        ensures within { OnErr result (HasFront (text_of (K.written self.old.sink.now) self.old.waiting.items) (K.written self.new.sink.now)) }
-        ensures extends { Extends (K.written self.old.sink.now) (K.written self.new.sink.now) }
+        ensures writes { WritesAll (K.told self.old.sink.now) (K.told self.new.sink.now) result self.old.waiting.items }
         ensures empty { self.new.waiting.items ≡ [] }
-        ensures cause { HasCause (K.faults self.old.sink.now) (K.faults self.new.sink.now) result }
         ensures failed { self.new.failed ≡ is_err result }
         ensures same_reference { self.new.sink.ghost_name ≡ self.old.sink.ghost_name }
     {
@@ -118,10 +101,7 @@ impl<'a, K: Sink> Pen<'a, K> {
     fn gather(&mut self, bytes: &[u8]) -> Result<(), WriteFault>
         requires ready { self.old.failed ≡ false }
         requires empty { self.old.waiting.items ≡ [] }
-        ensures puts { Puts result (K.written self.old.sink.now) (K.written self.new.sink.now) (K.written self.old.sink.now) (text_of (K.written self.new.sink.now) self.new.waiting.items) bytes.now }
-        ensures cause { HasCause (K.faults self.old.sink.now) (K.faults self.new.sink.now) result }
-        ensures failed { self.new.failed ≡ is_err result }
-        ensures same_reference { self.new.sink.ghost_name ≡ self.old.sink.ghost_name }
+        ensures { Puts K.told self.old self.new result bytes.now }
     {
         if self.waiting.try_extend_from_slice(bytes).is_ok() {
             return Ok(());
@@ -134,10 +114,7 @@ impl<'a, K: Sink> Pen<'a, K> {
     /// Writes what waits and flushes the sink once.
     pub fn finish(self) -> Result<(), WriteFault>
         requires { self.failed ≡ false }
-        ensures ok { OnOk result (Keeps (text_of (K.written self.entry.sink.now) self.entry.waiting.items) (K.written self.exit.0.now)) }
-        ensures within { OnErr result (HasFront (text_of (K.written self.entry.sink.now) self.entry.waiting.items) (K.written self.exit.0.now)) }
-        ensures extends { Extends (K.written self.entry.sink.now) (K.written self.exit.0.now) }
-        ensures cause { HasCause (K.faults self.entry.sink.now) (K.faults self.exit.0.now) result }
+        ensures { WritesAll (K.told self.entry.sink.now) (K.told self.exit.0.now) result self.entry.waiting.items }
     {
         let Pen {
             sink,
@@ -150,20 +127,15 @@ impl<'a, K: Sink> Pen<'a, K> {
 
 /// Writes the piece and flushes once.
 fn write_and_flush<K: Sink>(sink: &mut K, piece: &[u8]) -> Result<(), WriteFault>
-    ensures ok { OnOk result (Keeps (text_of (K.written sink.old) piece.now) (K.written sink.new)) }
-    ensures within { OnErr result (HasFront (text_of (K.written sink.old) piece.now) (K.written sink.new)) }
-    ensures extends { Extends (K.written sink.old) (K.written sink.new) }
-    ensures cause { HasCause (K.faults sink.old) (K.faults sink.new) result }
+    ensures { WritesAll (K.told sink.old) (K.told sink.new) result piece.now }
 {
     write_all(sink, piece)?;
     sink.flush()
 }
 
 /// Writes all of the piece.
-
 fn write_all<K: Sink>(sink: &mut K, piece: &[u8]) -> Result<(), WriteFault>
-    ensures puts { Puts result (K.written sink.old) (K.written sink.new) (K.written sink.old) (K.written sink.new) piece.now }
-    ensures cause { HasCause (K.faults sink.old) (K.faults sink.new) result }
+    ensures { WritesAll (K.told sink.old) (K.told sink.new) result piece.now }
 {
     let mut at = 0;
     while at < piece.len() {

@@ -1,27 +1,21 @@
-ghost use Rattle.std.specs.Prelude.{ℕ, ◌<◌, ◌≤◌, List, Option, IfOk, length};
-ghost use Rattle.std.specs.Io.KnownBytes.{WriteAppends, Keeps};
-ghost use Rattle.icet_model.specs.Faults.{HasCause};
+ghost use Rattle.std.specs.Prelude.{◌<◌, length};
+ghost use Rattle.icet_model.specs.Streams.{SinkView, Writes, Flushes};
 
 use crate::faults::WriteFault;
 
-/// Where bytes go. A sink may tell what was written.
+/// Where bytes go.
 pub trait Sink {
-    /// The bytes written so far, where the sink tells them.
-    ghost written: { Self → Option (List ℕ) };
-
-    /// How often a write or a flush has failed. The count stands still at the greatest value of its type.
-    ghost faults: { Self → ℕ };
+    /// What the sink tells: the bytes written so far, or nothing of them, and how often a write or a
+    /// flush has failed, a count that stands still at the greatest value of its type.
+    ghost told: { Self → SinkView };
 
     /// Appends the first bytes of `piece` to what was written and answers how many, at least one. A
     /// failed write appends none, and raises the count of faults.
     fn write(&mut self, piece: &[u8]) -> Result<usize, WriteFault>
         requires { 0 < length piece.now }
-        ensures count { IfOk result (λ n. (0 < n) × (n ≤ length piece.now)) }
-        ensures bytes { WriteAppends (written self.old) (written self.new) result piece.now }
-        ensures cause { HasCause (faults self.old) (faults self.new) result };
+        ensures { Writes (told self.old) (told self.new) result piece.now };
 
     /// Hands on what may still wait below; what counts as written stays.
     fn flush(&mut self) -> Result<(), WriteFault>
-        ensures same { Keeps (written self.old) (written self.new) }
-        ensures cause { HasCause (faults self.old) (faults self.new) result };
+        ensures { Flushes (told self.old) (told self.new) result };
 }

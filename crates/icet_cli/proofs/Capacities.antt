@@ -3,8 +3,8 @@ use Rattle.std.proofs.Common.{◌≡◌, ℕ, ◌≤◌, Bool, true, false, cond
 use Rattle.std.specs.Prelude.{nat_le, ◌&&◌}
 use Rattle.std.specs.Option.{option_and_then}
 use Rattle.std.proofs.lemmas.Bool.Decides.{nat_tests}
-use Rattle.icet_model.specs.Numeral.{number_of, within}
-use Rattle.icet_model.specs.Scene.{number_in}
+use Rattle.icet_scene_model.specs.Numeral.{number_of, within}
+use Rattle.icet_scene_model.specs.Scene.{number_in}
 
 pub cap_some : (word : List ℕ) (n : ℕ) → number_in (1, 64) word ≡ Some n → 1 ≤ n
 cap_some word n e = go (number_of word) e

@@ -4,22 +4,23 @@ use Rattle.std.specs.Prelude.{nat_lt}
 use Rattle.std.specs.Io.KnownBytes.{Consumes, IsAtEnd}
 use Rattle.std.proofs.lemmas.Bool.Decides.{nat_tests}
 use Rattle.std.proofs.lemmas.List.{append-nil}
-use Rattle.icet_model.specs.Lines.{lines_of}
-use Rattle.icet_model.specs.Scene.{SceneView, SceneText, TooLong, text_is, text_behind}
-use Rattle.icet_cli.specs.Outcome.{Outside, RunsTo, IsComplete}
+use Rattle.icet_model.specs.declared.limits.TheConstants.{MAX_SCENE_BYTES}
+use Rattle.icet_scene_model.specs.Lines.{lines_of}
+use Rattle.icet_scene_model.specs.Scene.{SceneView, SceneText, TooLong, text_is, text_behind}
+use Rattle.icet_cli.specs.Outcome.{Outside, EndsAs, IsComplete}
 use Rattle.icet_cli.specs.declared.status.Status.{Status}
 use Rattle.icet_cli.specs.declared.status.Status.TheVariants.{Ok, SceneRefused, WordsRefused, ReadFault, WriteFault, NoMemory}
 
 -- a scene's text isn't too long
-pub short : (bytes : List ℕ) (scene : SceneView) → text_is bytes ≡ SceneText scene → length bytes ≤ 67108864
-short bytes scene e = go (nat_lt 67108864 (length bytes)) refl e
+pub short : (bytes : List ℕ) (scene : SceneView) → text_is bytes ≡ SceneText scene → length bytes ≤ MAX_SCENE_BYTES
+short bytes scene e = go (nat_lt MAX_SCENE_BYTES (length bytes)) refl e
   where
-    go : (b : Bool) → nat_lt 67108864 (length bytes) ≡ b → cond b TooLong (text_behind [] 1 (lines_of bytes)) ≡ SceneText scene → length bytes ≤ 67108864
+    go : (b : Bool) → nat_lt MAX_SCENE_BYTES (length bytes) ≡ b → cond b TooLong (text_behind [] 1 (lines_of bytes)) ≡ SceneText scene → length bytes ≤ MAX_SCENE_BYTES
     go true t f = absurd cc
     go false t f = grind (arith, nat_tests, t)
 
 -- what was read of a source that is at its end is all that was left
-all_read : (left new : Option (List ℕ)) (whole bytes : List ℕ) → left ≡ Some whole → Consumes left new bytes → (length bytes ≤ 67108864 → IsAtEnd new) → length whole ≤ 67108864 → bytes ≡ whole
+all_read : (left new : Option (List ℕ)) (whole bytes : List ℕ) → left ≡ Some whole → Consumes left new bytes → (length bytes ≤ MAX_SCENE_BYTES → IsAtEnd new) → length whole ≤ MAX_SCENE_BYTES → bytes ≡ whole
 all_read None new whole bytes e c end l = absurd cc
 all_read (Some xs) None whole bytes e c end l = absurd c
 all_read (Some xs) (Some []) whole bytes e c end l = let same : xs ≡ whole = cc in sym (append-nil bytes) ∙ sym c ∙ same
@@ -28,12 +29,12 @@ all_read (Some xs) (Some (y ∷ ys)) whole bytes e c end l =
     let count = ap length (sym same ∙ c) ∙ length-append bytes (y ∷ ys) in
     absurd (let e : y ∷ ys ≡ [] = end (omega (arith, count, l)) in cc)
 
-pub complete : (words : List (List ℕ)) (old new : Outside) (status : Status) → RunsTo words old new status → IsComplete words old new status
-complete words old new Ok runs command bytes scene read left valid sure_source sure_sink = inl refl
-complete words old new NoMemory runs command bytes scene read left valid sure_source sure_sink = inr refl
-complete words old new SceneRefused runs command bytes scene read left valid sure_source sure_sink =
-    let refuses = runs.1 in
-    absurd (refuses.faulty scene (ap text_is (all_read old.left new.left bytes refuses.bytes left refuses.consumed refuses.whole (short bytes scene valid)) ∙ valid))
-complete words old new WordsRefused runs command bytes scene read left valid sure_source sure_sink = absurd (let e : None ≡ Some command = sym runs.0 ∙ read in cc)
-complete words old new ReadFault runs command bytes scene read left valid sure_source sure_sink = absurd (sure_source runs.1)
-complete words old new WriteFault runs command bytes scene read left valid sure_source sure_sink = absurd (sure_sink runs.rose)
+pub complete : (words : List (List ℕ)) (old new : Outside) (status : Status) → EndsAs words old new status → IsComplete words old new status
+complete words old new Ok ends command bytes scene read left valid sure_source sure_sink = inl refl
+complete words old new NoMemory ends command bytes scene read left valid sure_source sure_sink = inr refl
+complete words old new SceneRefused ends command bytes scene read left valid sure_source sure_sink =
+    let refuses = ends.1 in
+    absurd (refuses.faulty scene (ap text_is (all_read old.source.left new.source.left bytes refuses.bytes left refuses.all.read.consumed refuses.all.whole (short bytes scene valid)) ∙ valid))
+complete words old new WordsRefused ends command bytes scene read left valid sure_source sure_sink = absurd (let e : None ≡ Some command = sym ends.0 ∙ read in cc)
+complete words old new ReadFault ends command bytes scene read left valid sure_source sure_sink = absurd (sure_source ends.1)
+complete words old new WriteFault ends command bytes scene read left valid sure_source sure_sink = absurd (sure_sink ends.wrote.cause.failed)

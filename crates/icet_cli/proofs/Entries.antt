@@ -5,8 +5,8 @@ use Rattle.std.specs.List.{slice_split, position}
 use Rattle.std.specs.Option.{option_and_then}
 use Rattle.std.proofs.lemmas.Bool.Decides.{nat_tests}
 use Rattle.std.proofs.lemmas.List.Splits.{slice_split_first, length-slice_split}
-use Rattle.icet_model.specs.Scene.{number_in, with_number}
-use Rattle.icet_model.specs.Words.{entries_of, schedule_of}
+use Rattle.icet_scene_model.specs.Scene.{number_in, with_number}
+use Rattle.icet_scene_model.specs.Words.{entries_of, schedule_of}
 use Rattle.icet_scene.proofs.Splits.{position_some, position_none, split_whole}
 
 -- the entries of a schedule with no comma

@@ -1,6 +1,7 @@
 pub mod Capacities
 pub mod Completeness
-pub mod Consumed
-pub mod Ended
 pub mod Entries
+pub mod JobTexts
 pub mod Options
+pub mod PiecesRead
+pub mod RunEndings

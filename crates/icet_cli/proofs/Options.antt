@@ -1,6 +1,6 @@
 -- Lists of words by how many there are.
 use Rattle.std.proofs.Common.{◌≡◌, ℕ, ◌<◌, ◌≤◌, List, [], ◌∷◌, map, length, get_or, None, refl, arith}
-use Rattle.icet_model.specs.Words.{Job, command_of, with_options, with_schedule}
+use Rattle.icet_scene_model.specs.Words.{Job, command_of, with_options, with_schedule}
 
 -- a job and the strategy are three words
 pub no_command : {X : Type 0} (f : X → List ℕ) (xs : List X) → length xs < 3 → command_of (map f xs) ≡ None

@@ -1,7 +1,7 @@
 -- The definitions' jobs for those of the code, and the entries of a schedule that are left.
 use Rattle.std.specs.Prelude.{ℕ, ◌==◌, List, [], Option, Some, None}
 use Rattle.std.specs.List.{slice_split}
-use Rattle.icet_model.specs.Words.{Job as JobView, Composite as CompositeJob, Replay as ReplayJob}
+use Rattle.icet_scene_model.specs.Words.{Job as JobView, Composite as CompositeJob, Replay as ReplayJob}
 use Rattle.icet_cli.specs.declared.command.Job.{Job}
 use Rattle.icet_cli.specs.declared.command.Job.TheVariants.{Composite, Replay}
 

@@ -1,7 +1,8 @@
 pub mod Commands
-pub mod Endings
-pub mod Faults
+pub mod FaultNotes
+pub mod JobEndings
 pub mod Notes
 pub mod Outcome
-pub mod Reading
+pub mod SceneBytes
 pub mod Statuses
+pub mod Untouched

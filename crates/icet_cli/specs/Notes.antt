@@ -1,10 +1,9 @@
 -- What the notes get of a fault.
-use Rattle.std.specs.Prelude.{ℕ, List, Option, ◌⊎◌}
-use Rattle.std.specs.Io.KnownBytes.{Appends, append_known}
-use Rattle.icet_model.specs.Bytes.{Extends, HasFront}
-use Rattle.icet_model.specs.Faults.{Rose}
+use Rattle.std.specs.Prelude.{ℕ, List, Result}
+use Rattle.icet_model.specs.Streams.{SinkView, WritesAll}
+use Rattle.icet_base.specs.declared.faults.WriteFault.{WriteFault}
 
 -- the line, or a front of it where the notes' own faults rose
-pub record HasNoted (notes_old notes_new : Option (List ℕ)) (faults_old faults_new : ℕ) (line : List ℕ) : Type 0 where
-  pub extends : Extends notes_old notes_new
-  pub noted : Appends notes_old notes_new line ⊎ (Rose faults_old faults_new × HasFront (append_known notes_old line) notes_new)
+pub record HasNoted (old new : SinkView) (line : List ℕ) : Type 0 where
+  pub result : Result (Unit {0}) WriteFault
+  pub wrote : WritesAll old new result line

@@ -1,32 +1,38 @@
 -- What a run of the program leaves, by its status: the promise of the top call.
-use Rattle.std.specs.Prelude.{◌≡◌, ℕ, ◌≤◌, ◌⊎◌, List, [], ◌++◌, length, Option, Some, None}
-use Rattle.std.specs.Io.KnownBytes.{Keeps, Appends, Consumes, IsAtEnd, append_known}
-use Rattle.icet_model.specs.Bytes.{Extends, HasFront}
+use Rattle.std.specs.Prelude.{◌≡◌, ℕ, ◌⊎◌, List, [], ◌++◌, map, Some, None, Ok as OkResult, Err}
+use Rattle.std.specs.Borrow.{Bor}
+use Rattle.std.specs.Io.KnownBytes.{IsAtEnd}
 use Rattle.icet_model.specs.Core.{start}
 use Rattle.icet_model.specs.Faults.{Rose}
-use Rattle.icet_model.specs.FaultLines.{words_line, read_line, write_line, memory_line, text_line}
-use Rattle.icet_model.specs.Jobs.{composite_text}
 use Rattle.icet_model.specs.Pixel.{Pixel}
 use Rattle.icet_model.specs.Replay.{replay_from}
-use Rattle.icet_model.specs.Scene.{SceneView, SceneText, text_is}
+use Rattle.icet_model.specs.Streams.{SourceView, SinkView, WritesAll}
 use Rattle.icet_model.specs.Traffic.{PairTraffic}
-use Rattle.icet_model.specs.Words.{Job, Composite, Replay, Command, command_of}
+use Rattle.icet_scene_model.specs.FaultLines.{words_line, read_line, write_line, memory_line, text_line}
+use Rattle.icet_scene_model.specs.Jobs.{composite_text}
+use Rattle.icet_scene_model.specs.Scene.{SceneView, SceneText, text_is}
+use Rattle.icet_scene_model.specs.Words.{Job, Composite, Replay, Command, command_of}
+use Rattle.icet_base.specs.declared.faults.WriteFault.{WriteFault}
 use Rattle.icet_multi.specs.declared.settings.Strategy.TheVariants.{Direct}
 use Rattle.icet_jobs.specs.Composites.{composite_traffic, exchanges_of, scene_tiles}
 use Rattle.icet_cli.specs.Notes.{HasNoted}
+use Rattle.icet_cli.specs.SceneBytes.{ReadsAll, ReadsFew}
 use Rattle.icet_cli.specs.declared.status.Status.{Status}
-use Rattle.icet_cli.specs.declared.status.Status.TheVariants.{Ok, SceneRefused, WordsRefused, ReadFault, WriteFault, NoMemory}
+use Rattle.icet_cli.specs.declared.status.Status.TheVariants.{Ok, SceneRefused, WordsRefused, ReadFault, WriteFault as SinkFailed, NoMemory}
 
--- what the outside tells at a moment: the bytes left in the source, those written to the sink and to
--- the notes, how often each has failed, and the log of the wires
+-- what the outside tells at a moment
 pub record Outside : Type 0 where
-  pub left : Option (List ℕ)
-  pub read_faults : ℕ
-  pub written : Option (List ℕ)
-  pub write_faults : ℕ
-  pub noted : Option (List ℕ)
-  pub note_faults : ℕ
+  pub source : SourceView
+  pub sink : SinkView
+  pub notes : SinkView
   pub log : List (PairTraffic (List Pixel))
+
+abbrev pub outside : SourceView → SinkView → SinkView → List (PairTraffic (List Pixel)) → Outside
+outside source sink notes log = record { source = source; sink = sink; notes = notes; log = log }
+
+-- the texts that are borrowed
+abbrev pub texts : List (Bor (List ℕ)) → List (List ℕ)
+texts words = map (λ word. word.now) words
 
 abbrev pub text_for : Job → ℕ → List ℕ → SceneView → List ℕ
 text_for Composite cap schedule scene = composite_text scene
@@ -49,17 +55,17 @@ pub record IsCommand (words : List (List ℕ)) : Type 0 where
   pub command : Command
   pub is : command_of words ≡ Some command
 
--- sink and log are as before, and the notes got the fault's line
+-- nothing was written to the sink or carried, and the notes got the fault's line
 pub record Refuses (old new : Outside) (line : List ℕ) : Type 0 where
-  pub written : Keeps old.written new.written
+  pub sink : new.sink ≡ old.sink
   pub log : new.log ≡ old.log
-  pub noted : HasNoted old.noted new.noted old.note_faults new.note_faults line
+  pub noted : HasNoted old.notes new.notes line
 
 -- the source was read to its end, and its bytes are a scene
 pub record ReadsScene (old new : Outside) (scene : SceneView) : Type 0 where
   pub bytes : List ℕ
-  pub consumed : Consumes old.left new.left bytes
-  pub at_end : IsAtEnd new.left
+  pub all : ReadsAll old.source new.source bytes
+  pub at_end : IsAtEnd new.source.left
   pub valid : text_is bytes ≡ SceneText scene
 
 -- the words are a command and the source's bytes a scene; the sink grew by exactly the job's text, and
@@ -69,9 +75,9 @@ pub record Succeeds (words : List (List ℕ)) (old new : Outside) : Type 0 where
   pub read_words : command_of words ≡ Some command
   pub scene : SceneView
   pub reads : ReadsScene old new scene
-  pub grew : Appends old.written new.written (job_text command scene)
+  pub wrote : WritesAll {E = WriteFault} old.sink new.sink (OkResult tt) (job_text command scene)
   pub log : new.log ≡ old.log ++ job_traffic command scene
-  pub noted : Keeps old.noted new.noted
+  pub noted : new.notes ≡ old.notes
 
 -- the sink failed, and grew by a front of the job's text; the log is as where all went well
 pub record FailsToWrite (words : List (List ℕ)) (old new : Outside) : Type 0 where
@@ -79,32 +85,47 @@ pub record FailsToWrite (words : List (List ℕ)) (old new : Outside) : Type 0 w
   pub read_words : command_of words ≡ Some command
   pub scene : SceneView
   pub reads : ReadsScene old new scene
-  pub rose : Rose old.write_faults new.write_faults
-  pub extends : Extends old.written new.written
-  pub front : HasFront (append_known old.written (job_text command scene)) new.written
+  pub wrote : WritesAll {E = WriteFault} old.sink new.sink (Err (record {})) (job_text command scene)
   pub log : new.log ≡ old.log ++ job_traffic command scene
-  pub noted : HasNoted old.noted new.noted old.note_faults new.note_faults write_line
+  pub noted : HasNoted old.notes new.notes write_line
 
 -- the bytes read are no scene; they are all that was left, or more than a scene may have
 pub record RefusesScene (old new : Outside) : Type 0 where
   pub bytes : List ℕ
-  pub consumed : Consumes old.left new.left bytes
-  pub whole : length bytes ≤ 67108864 → IsAtEnd new.left
+  pub all : ReadsAll old.source new.source bytes
   pub faulty : (scene : SceneView) → text_is bytes ≡ SceneText scene → ⊥
   pub refuses : Refuses old new (text_line (text_is bytes))
 
--- what stands after a run on these words, by its status
-abbrev pub RunsTo : List (List ℕ) → Outside → Outside → Status → Type 0
-RunsTo words old new Ok = Succeeds words old new
-RunsTo words old new SceneRefused = IsCommand words × RefusesScene old new
-RunsTo words old new WordsRefused = (command_of words ≡ None) × Keeps old.left new.left × Refuses old new words_line
-RunsTo words old new ReadFault = IsCommand words × Rose old.read_faults new.read_faults × Refuses old new read_line
-RunsTo words old new WriteFault = FailsToWrite words old new
-RunsTo words old new NoMemory = Refuses old new memory_line
+-- what stands after a run on these words that ended with this status
+abbrev pub EndsAs : List (List ℕ) → Outside → Outside → Status → Type 0
+EndsAs words old new Ok = Succeeds words old new
+EndsAs words old new SceneRefused = IsCommand words × RefusesScene old new
+EndsAs words old new WordsRefused = (command_of words ≡ None) × (new.source ≡ old.source) × Refuses old new words_line
+EndsAs words old new ReadFault = IsCommand words × Rose old.source.faults new.source.faults × Refuses old new read_line
+EndsAs words old new SinkFailed = FailsToWrite words old new
+EndsAs words old new NoMemory = (new.source.faults ≡ old.source.faults) × Refuses old new memory_line
 
 -- where the words are a command, the bytes left a scene, and neither source nor sink failed, all goes
 -- well or memory is wanting
 abbrev pub IsComplete : List (List ℕ) → Outside → Outside → Status → Type 0
 IsComplete words old new status =
-    (command : Command) (bytes : List ℕ) (scene : SceneView) → command_of words ≡ Some command → old.left ≡ Some bytes → text_is bytes ≡ SceneText scene
-    → (Rose old.read_faults new.read_faults → ⊥) → (Rose old.write_faults new.write_faults → ⊥) → (status ≡ Ok) ⊎ (status ≡ NoMemory)
+    (command : Command) (bytes : List ℕ) (scene : SceneView) → command_of words ≡ Some command → old.source.left ≡ Some bytes → text_is bytes ≡ SceneText scene
+    → (Rose old.source.faults new.source.faults → ⊥) → (Rose old.sink.faults new.sink.faults → ⊥) → (status ≡ Ok) ⊎ (status ≡ NoMemory)
+
+-- the promise of a run on these words
+pub record RunsTo (words : List (List ℕ)) (old new : Outside) (status : Status) : Type 0 where
+  pub ends : EndsAs words old new status
+  pub complete : IsComplete words old new status
+  pub read : ReadsFew old.source new.source
+
+-- what a run tells before a fault is noted
+pub record Work : Type 0 where
+  pub source : SourceView
+  pub sink : SinkView
+  pub log : List (PairTraffic (List Pixel))
+
+abbrev pub work : SourceView → SinkView → List (PairTraffic (List Pixel)) → Work
+work source sink log = record { source = source; sink = sink; log = log }
+
+abbrev pub with_notes : Work → SinkView → Outside
+with_notes w notes = record { source = w.source; sink = w.sink; notes = notes; log = w.log }

@@ -1,12 +1,13 @@
-ghost use Rattle.std.specs.Prelude.{◌≡◌, ◌≤◌, ◌==◌, ◌∷◌, ◌&&◌, [], IfOk, codes, map, option_map};
+ghost use Rattle.std.specs.Prelude.{◌≡◌, ◌≤◌, ◌==◌, ◌∷◌, ◌&&◌, [], IfOk, codes, option_map};
 ghost use Rattle.std.specs.List.{slice_split};
 ghost use Rattle.std.specs.Option.{option_and_then, option_copied};
-ghost use Rattle.icet_model.specs.Scene.{is_word};
-ghost use Rattle.icet_model.specs.Words.{cap_of, command_of, job_of, schedule_of, with_options, with_schedule};
+ghost use Rattle.icet_scene_model.specs.Scene.{is_word};
+ghost use Rattle.icet_scene_model.specs.Words.{cap_of, command_of, job_of, schedule_of, with_options, with_schedule};
 ghost use Rattle.icet_cli.specs.Commands.{entries_behind, job_view};
+ghost use Rattle.icet_cli.specs.Outcome.{texts};
 
 use icet_base::NoMemory;
-use icet_base::limits::{MAX_CAPACITY, MAX_RANKS, MAX_SCHEDULE};
+use icet_base::limits::{MAX_CAPACITY, MAX_SCHEDULE, MAX_TEXT_RANKS};
 use icet_scene::numeral::number;
 use icet_scene::words::place_of;
 use std::alloc::Global;
@@ -53,7 +54,7 @@ pub struct Command {
 }
 
 impl Model for Command {
-    ghost use Rattle.icet_model.specs.Words.{Command as CommandView};
+    ghost use Rattle.icet_scene_model.specs.Words.{Command as CommandView};
     ghost use Rattle.icet_cli.specs.Commands.{job_view};
     ghost use Rattle.std.specs.Prelude.{◌≤◌};
 
@@ -95,7 +96,7 @@ const PLAIN_CAP: u32 = 4;
 /// and then `--cap` and `--schedule` in this order, each with its value, or left out. None where they
 /// are no command.
 pub fn read_words(alloc: Global, words: &[&str]) -> Result<Option<Command>, NoMemory>
-    ensures { IfOk result (λ read. read ≡ command_of (map (λ word. word.now) words.now)) }
+    ensures { IfOk result (λ read. read ≡ command_of (texts words.now)) }
 {
     match words {
         [job, option, value, options @ ..] => {
@@ -116,7 +117,7 @@ fn is_direct(option: &str, value: &str) -> bool
 }
 
 fn read_job(alloc: Global, word: &str, options: &[&str]) -> Result<Option<Command>, NoMemory>
-    ensures { IfOk result (λ read. read ≡ option_and_then (λ job. with_options job (map (λ option. option.now) options.now)) (job_of word.now)) }
+    ensures { IfOk result (λ read. read ≡ option_and_then (λ job. with_options job (texts options.now)) (job_of word.now)) }
 {
     match job_of(word) {
         None => Ok(None),
@@ -137,7 +138,7 @@ fn job_of(word: &str) -> Option<Job>
 }
 
 fn read_options(alloc: Global, job: Job, options: &[&str]) -> Result<Option<Command>, NoMemory>
-    ensures { IfOk result (λ read. read ≡ with_options (job_view job) (map (λ option. option.now) options.now)) }
+    ensures { IfOk result (λ read. read ≡ with_options (job_view job) (texts options.now)) }
 {
     match options {
         [name, value, others @ ..] => {
@@ -158,7 +159,7 @@ fn read_cap(
     value: &str,
     options: &[&str],
 ) -> Result<Option<Command>, NoMemory>
-    ensures { IfOk result (λ read. read ≡ option_and_then (λ cap. with_schedule (job_view job) cap (map (λ option. option.now) options.now)) (cap_of value.now)) }
+    ensures { IfOk result (λ read. read ≡ option_and_then (λ cap. with_schedule (job_view job) cap (texts options.now)) (cap_of value.now)) }
 {
     match number((1, MAX_CAPACITY), value.as_bytes()) {
         None => Ok(None),
@@ -173,7 +174,7 @@ fn read_schedule(
     options: &[&str],
 ) -> Result<Option<Command>, NoMemory>
     requires { 1 ≤ cap }
-    ensures { IfOk result (λ read. read ≡ with_schedule (job_view job) cap (map (λ option. option.now) options.now)) }
+    ensures { IfOk result (λ read. read ≡ with_schedule (job_view job) cap (texts options.now)) }
 {
     match options {
         [] => Ok(Some(Command {
@@ -219,7 +220,7 @@ fn schedule_of(alloc: Global, text: &[u8]) -> Result<Option<Schedule>, NoMemory>
             return Ok(None);
         }
         let (entry, behind) = split_entry(entries);
-        match number((0, MAX_RANKS - 1), entry) {
+        match number((0, MAX_TEXT_RANKS - 1), entry) {
             None => return Ok(None),
             Some(rank) => ranks.push(rank)?,
         }

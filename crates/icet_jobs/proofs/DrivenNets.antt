@@ -5,7 +5,6 @@ use mathlib.Core.Path.{fun_ext}
 use Rattle.icet_model.specs.declared.names.Mode.{Mode}
 use Rattle.icet_model.specs.Pixel.{Pixel}
 use Rattle.icet_model.specs.Run.{Piece}
-use Rattle.icet_model.specs.Wires.{Pairing}
 use Rattle.icet_rank.specs.Machine.{MachineView, content_at}
 use Rattle.icet_net.specs.Ranks.{machine_at, mode_of, images_of, EachRank, ComesOn, AreOpenedWith}
 use Rattle.icet_jobs.specs.Nets.{piece_images}
@@ -24,7 +23,7 @@ or_beyond [] r d l = refl
 or_beyond (x ∷ xs) zero d l = absurd (omega arith)
 or_beyond (x ∷ xs) (suc r) d l = or_beyond xs r d (omega arith)
 
-module _ {I O : Type 0} (in_pairing : I → Pairing) (out_pairing : O → Pairing) (mode : Mode) (images : List (List (Piece (List Pixel)))) (olds news : List (MachineView I O)) (opened : AreOpenedWith mode images olds) (on : EachRank (ComesOn in_pairing out_pairing) olds news) where
+module _ (mode : Mode) (images : List (List (Piece (List Pixel)))) (olds news : List MachineView) (opened : AreOpenedWith mode images olds) (on : EachRank ComesOn olds news) where
   images_at : (r : ℕ) → r < length olds → (machine_at news r).images ≡ get_or images r []
   images_at r l = (on.each r l).job.images ∙ (opened.each r l).images_are
 

@@ -3,6 +3,7 @@ pub mod LowestLeft
 pub mod PictureTexts
 pub mod PlanExchanges
 pub mod ReplayLines
+pub mod SameValues
 pub mod SceneImages
 pub mod SceneNets
 pub mod ScenePictures

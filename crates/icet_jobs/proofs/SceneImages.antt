@@ -6,10 +6,10 @@ use Rattle.std.proofs.lemmas.List.{length-map}
 use Rattle.std.proofs.lemmas.List.FromFn.{length-range_with_len}
 use Rattle.icet_model.specs.declared.names.Mode.{Mode}
 use Rattle.icet_model.specs.Pixel.{Pixel}
-use Rattle.icet_model.specs.Raster.{Drawing, Area, full_image}
-use Rattle.icet_model.specs.Tiles.{TileView as AreaTile}
-use Rattle.icet_model.specs.Scene.{SceneView}
-use Rattle.icet_model.specs.Jobs.{shapes_of}
+use Rattle.icet_scene_model.specs.Raster.{Drawing, full_image}
+use Rattle.icet_model.specs.Tiles.{Area, TileView as AreaTile}
+use Rattle.icet_scene_model.specs.Scene.{SceneView}
+use Rattle.icet_scene_model.specs.Jobs.{shapes_of}
 use Rattle.icet_model.specs.Run.{Piece}
 use Rattle.icet_raster.proofs.Outside.{blank_outside}
 use Rattle.icet_rank.specs.Machine.{sizes_of, content_at}

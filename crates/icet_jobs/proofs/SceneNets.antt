@@ -9,10 +9,10 @@ use Rattle.std.proofs.lemmas.List.Kept.{AllPairs-cons}
 use Rattle.std.proofs.lemmas.List.Sums.{sum_by-cons}
 use Rattle.std.proofs.Math.Nat.{suc-mul}
 use Rattle.icet_model.specs.declared.names.Rect.{Rect}
-use Rattle.icet_model.specs.Boxes.{reaches_into, contributors}
+use Rattle.icet_scene_model.specs.Boxes.{reaches_into, contributors}
 use Rattle.icet_model.specs.Plan.{PlanView}
 use Rattle.icet_model.specs.Tiles.{TileView as AreaTile}
-use Rattle.icet_model.specs.Scene.{SceneView}
+use Rattle.icet_scene_model.specs.Scene.{SceneView}
 use Rattle.icet_tiles.specs.Contributors.{HasEachOnce}
 use Rattle.icet_multi.specs.declared.settings.Strategy.{Strategy}
 use Rattle.icet_multi.specs.declared.settings.Strategy.TheVariants.{Direct}
@@ -21,7 +21,8 @@ use Rattle.icet_multi.specs.Strategies.{IsPlanOf, KeepsOrder, tile_ranks}
 use Rattle.icet_net.specs.Opening.{CanOpen}
 use Rattle.icet_net.specs.Ranks.{AreWholeImages}
 use Rattle.icet_scene.specs.Scenes.{IsLawfulScene}
-use Rattle.icet_jobs.specs.Composites.{boxes_of, scene_tiles, rank_image, rank_images}
+use Rattle.icet_scene_model.specs.Jobs.{boxes_of}
+use Rattle.icet_jobs.specs.Composites.{scene_tiles, rank_image, rank_images}
 use Rattle.icet_jobs.proofs.SceneImages.{whole_images}
 use Rattle.icet_model.proofs.Lists.{no_pairs}
 

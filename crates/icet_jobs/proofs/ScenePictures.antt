@@ -1,21 +1,21 @@
--- By depth the brackets of a strategy's plan show the plain composite.
-use Rattle.std.proofs.Common.{◌≡◌, ℕ, zero, suc, ◌+◌, ◌-◌, ◌*◌, ◌<◌, ◌≤◌, Bool, true, false, cond, List, [], ◌∷◌, map, length, get_or, replicate, filter, Some, None, refl, sym, ap, ◌∙◌, arith}
+-- The brackets of a strategy's plan show the plain composite.
+use Rattle.std.proofs.Common.{◌≡◌, ℕ, zero, suc, ◌+◌, ◌-◌, ◌*◌, ◌<◌, ◌≤◌, Bool, true, false, cond, List, [], ◌∷◌, map, length, get_or, replicate, filter, Some, None, refl, sym, ap, ◌∙◌, subst, arith}
 use Rattle.std.specs.Prelude.{slice_get}
-use Rattle.std.specs.List.{range_with_len}
+use Rattle.std.specs.List.{AllByRecursion, range_with_len}
 use Rattle.std.proofs.lemmas.List.{length-map}
 use mathlib.Core.Path.{fun_ext}
 use Rattle.icet_model.specs.declared.names.Mode.{Mode}
-use Rattle.icet_model.specs.declared.names.Mode.TheVariants.{Depth}
+use Rattle.icet_model.specs.declared.names.Mode.TheVariants.{Depth, Blend, WideBlend}
 use Rattle.icet_model.specs.declared.bracket.Bracket.TheVariants.{Empty}
 use Rattle.icet_model.specs.Pixel.{Pixel}
-use Rattle.icet_model.specs.Raster.{full_image}
-use Rattle.icet_model.specs.Boxes.{box, reaches_into, contributors}
-use Rattle.icet_model.specs.Bracket.{Images, value}
-use Rattle.icet_model.specs.Composite.{nearer, nearest, column, plain_composite}
+use Rattle.icet_scene_model.specs.Raster.{full_image}
+use Rattle.icet_scene_model.specs.Boxes.{box, reaches_into, contributors}
+use Rattle.icet_model.specs.Bracket.{Images, leaves, value}
+use Rattle.icet_model.specs.Composite.{nearer, nearest, column, images_by_rank, plain_pixel, plain_composite}
 use Rattle.icet_model.specs.Plan.{PlanView, values}
 use Rattle.icet_model.specs.Tiles.{TileView as AreaTile}
-use Rattle.icet_model.specs.Scene.{SceneView}
-use Rattle.icet_model.specs.Jobs.{shapes_of, full_images, plain_picture}
+use Rattle.icet_scene_model.specs.Scene.{SceneView}
+use Rattle.icet_scene_model.specs.Jobs.{shapes_of, boxes_of, bracket_of, full_images, plain_picture}
 use Rattle.icet_model.proofs.NearestLeaf.{value_nearest}
 use Rattle.icet_raster.proofs.Outside.{blank_outside}
 use Rattle.icet_multi.specs.declared.settings.Strategy.{Strategy}
@@ -27,7 +27,8 @@ use Rattle.icet_net.specs.Net.{HullView}
 use Rattle.icet_net.specs.Opening.{sides_of}
 use Rattle.icet_net.specs.Closing.{picture_of, pictures_of}
 use Rattle.icet_jobs.specs.Nets.{piece_images}
-use Rattle.icet_jobs.specs.Composites.{boxes_of, scene_tiles, image_at, rank_images, plain_pictures}
+use Rattle.icet_jobs.specs.Composites.{scene_tiles, image_at, rank_images, plain_pictures}
+use Rattle.icet_jobs.proofs.SameValues.{same_value, each_kept}
 use Rattle.icet_jobs.proofs.SceneImages.{made_at, same_image}
 
 front : (x y : Pixel) (xs ys : List Pixel) → x ≡ y → nearest xs ≡ nearest ys → nearest (x ∷ xs) ≡ nearest (y ∷ ys)
@@ -110,10 +111,24 @@ module _ (scene : SceneView) (ascending : scene.order ≡ range_with_len 0 scene
       (λ r l e. ap (λ image. get_or image i None) (out_of_box r l e) ∙ no_pixel (tile.area.w * tile.area.h) i)
       ∙ ap nearest (fuse (λ r. full_image scene.mode (shapes_of scene.shapes r) tile.area) (λ image. get_or image i None) (range_with_len 0 scene.ranks))
 
-  pixels_are : (mode : Mode) → values mode images t 0 (tile.area.w * tile.area.h) (tile_bracket (tile_with tile ranks_of_tile)) ≡ plain_composite mode (full_images scene tile) (tile.area.w * tile.area.h)
-  pixels_are Depth =
-      ap (λ n. map (λ i. value Depth images (tile_bracket (tile_with tile ranks_of_tile)) t i) (range_with_len 0 n)) (let z : tile.area.w * tile.area.h - 0 ≡ tile.area.w * tile.area.h = omega arith in z)
-      ∙ ap (λ f. map f (range_with_len 0 (tile.area.w * tile.area.h))) (fun_ext pixel_is)
+  -- the images of the net and the full images agree on the bracket's leaves
+  agrees : (i : ℕ) → AllByRecursion (λ r. get_or (images r t) i None ≡ get_or (images_by_rank (full_images scene tile) r 0) i None) (leaves (bracket_of scene tile))
+  agrees i =
+      let P : ℕ → Type 0 = λ r. get_or (images r t) i None ≡ get_or (images_by_rank (full_images scene tile) r 0) i None in
+      let here : (r : ℕ) → r < 0 + scene.ranks → P r = λ r l.
+      (let m : r < scene.ranks = omega (arith, l) in
+      ap (λ image. get_or image i None) (full r m ∙ ap (λ q. full_image scene.mode (shapes_of scene.shapes q) tile.area) (let z : r ≡ 0 + r = omega arith in z) ∙ sym (made_at (λ q. full_image scene.mode (shapes_of scene.shapes q) tile.area) 0 scene.ranks r [] m))) in
+      subst (AllByRecursion P) (sym (tile_leaves (tile_with tile ranks_of_tile))) (subst (λ o. AllByRecursion P (filter keeps o)) (sym ascending) (each_kept P keeps 0 scene.ranks here))
+
+  plain_is : (mode : Mode) (i : ℕ) → value mode images (bracket_of scene tile) t i ≡ plain_pixel mode (bracket_of scene tile) (full_images scene tile) i
+  plain_is Depth i = pixel_is i
+  plain_is Blend i = same_value Blend images (images_by_rank (full_images scene tile)) (bracket_of scene tile) t 0 i (agrees i)
+  plain_is WideBlend i = same_value WideBlend images (images_by_rank (full_images scene tile)) (bracket_of scene tile) t 0 i (agrees i)
+
+  pixels_are : (mode : Mode) → values mode images t 0 (tile.area.w * tile.area.h) (bracket_of scene tile) ≡ plain_composite mode (bracket_of scene tile) (full_images scene tile) (tile.area.w * tile.area.h)
+  pixels_are mode =
+      ap (λ n. map (λ i. value mode images (bracket_of scene tile) t i) (range_with_len 0 n)) (let z : tile.area.w * tile.area.h - 0 ≡ tile.area.w * tile.area.h = omega arith in z)
+      ∙ ap (λ f. map f (range_with_len 0 (tile.area.w * tile.area.h))) (fun_ext (plain_is mode))
 
 abbrev hull_of : SceneView → PlanView → ℕ → ℕ → List (ℕ × ℕ) → HullView
 hull_of scene plan cap strands pairs = record { plan = plan; cap = cap; strands = strands; sides = map sides_of scene.tiles; pairs = pairs }

@@ -9,7 +9,7 @@ use Rattle.icet_model.specs.Flow.{Messages}
 use Rattle.icet_model.specs.Plan.{PlanView, bracket_flow, values}
 use Rattle.icet_model.specs.Reading.{read_message}
 use Rattle.icet_model.specs.Traffic.{entry, entries, traffic}
-use Rattle.icet_model.specs.Scene.{SceneView}
+use Rattle.icet_scene_model.specs.Scene.{SceneView}
 use Rattle.icet_multi.specs.declared.settings.Strategy.{Strategy}
 use Rattle.icet_multi.specs.declared.settings.Strategy.TheVariants.{Direct}
 use Rattle.icet_multi.specs.Direct.{TileView, hands_in, image_message, messages_from}

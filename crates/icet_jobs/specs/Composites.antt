@@ -2,15 +2,14 @@
 use Rattle.std.specs.Prelude.{ℕ, suc, ◌*◌, List, [], ◌∷◌, map, Option, Some, None, slice_get}
 use Rattle.std.specs.List.{range_with_len}
 use Rattle.icet_model.specs.declared.names.Mode.{Mode}
-use Rattle.icet_model.specs.declared.names.Rect.{Rect}
 use Rattle.icet_model.specs.declared.bracket.Bracket.{Bracket}
 use Rattle.icet_model.specs.declared.exchange.Exchange.{Exchange}
 use Rattle.icet_model.specs.Pixel.{Pixel, DenseView}
-use Rattle.icet_model.specs.Raster.{Drawing, Area, full_image}
-use Rattle.icet_model.specs.Boxes.{box, contributors}
-use Rattle.icet_model.specs.Tiles.{TileView as AreaTile}
-use Rattle.icet_model.specs.Scene.{SceneView}
-use Rattle.icet_model.specs.Jobs.{shapes_of, plain_picture}
+use Rattle.icet_scene_model.specs.Raster.{Drawing, full_image}
+use Rattle.icet_model.specs.Tiles.{Area, TileView as AreaTile}
+use Rattle.icet_scene_model.specs.Boxes.{contributors}
+use Rattle.icet_scene_model.specs.Scene.{SceneView}
+use Rattle.icet_scene_model.specs.Jobs.{shapes_of, boxes_of, plain_picture}
 use Rattle.icet_model.specs.Bracket.{Images}
 use Rattle.icet_model.specs.Run.{Piece}
 use Rattle.icet_model.specs.Flow.{Messages}
@@ -21,10 +20,6 @@ use Rattle.icet_multi.specs.declared.settings.Strategy.{Strategy}
 use Rattle.icet_multi.specs.declared.settings.Strategy.TheVariants.{Direct}
 use Rattle.icet_multi.specs.Direct.{TileView, direct_exchanges, direct_messages}
 use Rattle.icet_multi.specs.Strategies.{tile_ranks}
-
--- the box of what each rank draws
-abbrev pub boxes_of : SceneView → List (Option Rect)
-boxes_of scene = map (λ rank. box (shapes_of scene.shapes rank)) (range_with_len 0 scene.ranks)
 
 -- the contributors to each tile
 abbrev pub who_of : SceneView → List (List ℕ)

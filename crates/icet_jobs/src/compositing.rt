@@ -2,8 +2,8 @@ ghost use Rattle.std.specs.Prelude.{◌≡◌, ◌≤◌, ◌++◌, IfOk, OnOk, 
 ghost use Rattle.icet_jobs.specs.Composites.{composite_traffic, plain_pictures};
 
 use crate::imaging::images_of;
+use crate::net::run_net;
 use crate::planning::plan_of;
-use crate::running::run_net;
 use icet_base::{Gate, NoMemory};
 use icet_multi::Settings;
 use icet_net::Pictures;
@@ -30,8 +30,8 @@ pub struct Outcome {
 }
 
 /// Composites a scene: makes the plan, draws each rank's images, moves them through a net over the
-/// wires, and hands out the plain composite of each tile. The wires' log grows by the plan's traffic.
-/// Conditions: capacity, workers and burst are at least 1, and there is one strand.
+/// wires, and hands out the plain composite of each tile. The wires' log grows by the plan's traffic,
+/// and each pair that was opened is closed.
 ///
 /// # Errors
 ///
@@ -50,6 +50,7 @@ pub fn composite<W: Wires, G: Gate, R: Threads + Sync>(
     requires strands { way.now.strands ≡ 1 }
     ensures pictures { IfOk result (λ outcome. outcome.pictures ≡ plain_pictures scene.now) }
     ensures log { OnOk result (W.log wires.new ≡ W.log wires.old ++ composite_traffic way.now.settings.strategy scene.now) }
+    ensures owed { OnOk result (W.owed wires.new ≡ W.owed wires.old) }
     ensures kept { OnErr result (W.log wires.new ≡ W.log wires.old) }
 {
     let _ranks = scene.ranks();

@@ -3,12 +3,12 @@
 
 pub mod compositing;
 mod imaging;
+mod net;
+pub mod pictures;
 pub mod planning;
-pub mod replaying;
-mod running;
-pub mod writing;
+pub mod replay;
 
 pub use compositing::{Outcome, Way, composite};
+pub use pictures::write_pictures;
 pub use planning::plan_of;
-pub use replaying::{JobFault, write_replay};
-pub use writing::write_pictures;
+pub use replay::{JobFault, write_replay};

@@ -1,6 +1,7 @@
 ghost use Rattle.std.specs.Prelude.{◌≡◌, IfOk};
 ghost use Rattle.icet_multi.specs.Strategies.{IsPlanOf};
-ghost use Rattle.icet_jobs.specs.Composites.{boxes_of, scene_tiles};
+ghost use Rattle.icet_jobs.specs.Composites.{scene_tiles};
+ghost use Rattle.icet_scene_model.specs.Jobs.{boxes_of};
 
 use icet_base::{NoMemory, Rank, Rect};
 use icet_multi::{Settings, plan};

@@ -74,3 +74,12 @@ module _ (all : List (List Exchange)) (cap : ℕ) (done : List ℕ) (r : ℕ) wh
       go false o d h = not_below r (length all) d
       go true None d h = absurd (cc)
       go true (Some e) d h = absurd (never_absent (allows all cap done r e.kind e.peer) h)
+
+  not_in : (a b : ℕ) → b ≤ a → nat_lt a b ≡ false
+  not_in a b h = grind (arith, nat_tests)
+
+  pub none_left : r < length all → due all done r ≡ None → outcome all cap done r ≡ Done
+  none_left l d = ap (λ b. cond b (try_of all cap done r (due all done r)) Absent) (is_below r (length all) l) ∙ ap (try_of all cap done r) d
+
+  pub beyond : length all ≤ r → outcome all cap done r ≡ Absent
+  beyond l = ap (λ b. cond b (try_of all cap done r (due all done r)) Absent) (not_in r (length all) l)

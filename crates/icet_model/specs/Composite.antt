@@ -2,8 +2,10 @@
 use Rattle.std.specs.Prelude.{◌≡◌, ℕ, ◌<◌, ◌≤◌, nat_le, cond, List, [], ◌∷◌, map, get_or, Some, None, slice_get, ◌⊎◌}
 use Rattle.std.specs.List.{range_with_len}
 use Rattle.icet_model.specs.declared.names.Mode.{Mode}
-use Rattle.icet_model.specs.declared.names.Mode.TheVariants.{Depth}
+use Rattle.icet_model.specs.declared.names.Mode.TheVariants.{Depth, Blend, WideBlend}
+use Rattle.icet_model.specs.declared.bracket.Bracket.{Bracket}
 use Rattle.icet_model.specs.Pixel.{FragmentView, Pixel}
+use Rattle.icet_model.specs.Bracket.{Images, value}
 
 -- the nearer of a fragment and what is behind it, the first at equal depth
 abbrev pub nearer : FragmentView → Pixel → FragmentView
@@ -31,6 +33,24 @@ pub record IsLeast (pixels : List Pixel) (fragment : FragmentView) (r : ℕ) : T
 abbrev pub column : List (List Pixel) → ℕ → List Pixel
 column images i = map (λ image. get_or image i None) images
 
--- the composite of the ranks' full images of a tile with so many pixels
-abbrev pub plain_composite : Mode → List (List Pixel) → ℕ → List Pixel
-plain_composite Depth images size = map (λ i. nearest (column images i)) (range_with_len 0 size)
+-- the same images, of this tile whatever its number
+abbrev pub images_by_rank : List (List Pixel) → Images
+images_by_rank images rank tile = get_or images rank []
+
+-- the pixel of a tile at a place: by depth the nearest of all ranks' pixels, with no bracket in it; by
+-- blending the value of the tile's bracket, since the order of the joins shows
+abbrev pub plain_pixel : Mode → Bracket → List (List Pixel) → ℕ → Pixel
+plain_pixel Depth bracket images i = nearest (column images i)
+plain_pixel Blend bracket images i = value Blend (images_by_rank images) bracket 0 i
+plain_pixel WideBlend bracket images i = value WideBlend (images_by_rank images) bracket 0 i
+
+-- the composite of the ranks' full images of a tile with this bracket and so many pixels
+abbrev pub plain_composite : Mode → Bracket → List (List Pixel) → ℕ → List Pixel
+plain_composite mode bracket images size = map (plain_pixel mode bracket images) (range_with_len 0 size)
+
+-- the nearest of pixels is the least pair of depth and rank, and none only where there is none
+abbrev pub NearestIsLeast : Type 0
+NearestIsLeast = (pixels : List Pixel) (fragment : FragmentView) → nearest pixels ≡ Some fragment → (r : ℕ) × IsLeast pixels fragment r
+
+abbrev pub NearestIsNoneOfNone : Type 0
+NearestIsNoneOfNone = (pixels : List Pixel) → nearest pixels ≡ None → (q : ℕ) (pixel : Pixel) → slice_get pixels q ≡ Some pixel → pixel ≡ None

@@ -42,6 +42,10 @@ pub record PlanView : Type 0 where
   pub brackets : List Bracket
   pub programs : List (List Op)
 
+-- a plan from its parts: each tile's number of positions, its display and its bracket, and the programs
+abbrev pub plan_view : List ℕ → List ℕ → List Bracket → List (List Op) → PlanView
+plan_view sizes displays brackets programs = record { tiles = record { sizes = sizes; displays = displays }; brackets = brackets; programs = programs }
+
 -- the exchanges of each rank
 abbrev pub plan_exchanges : PlanView → List (List Exchange)
 plan_exchanges plan = map exchanges plan.programs

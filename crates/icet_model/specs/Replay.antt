@@ -1,11 +1,11 @@
 -- The text of a replay: what comes of each rank's try to go on, in the order of a schedule.
-use Rattle.std.specs.Prelude.{ℕ, ◌+◌, Bool, cond, nat_lt, List, [], ◌∷◌, ◌++◌, length, get_or, position, Option, Some, None, codes, decimal}
+use Rattle.std.specs.Prelude.{◌≡◌, ◌<◌, ◌≤◌, ℕ, ◌+◌, Bool, cond, nat_lt, List, [], ◌∷◌, ◌++◌, length, get_or, position, Option, Some, None, codes, decimal}
 use Rattle.std.specs.List.{range_with_len}
 use Rattle.icet_model.specs.declared.exchange.Kind.{Kind}
 use Rattle.icet_model.specs.declared.exchange.Kind.TheVariants.{Send, Take}
 use Rattle.icet_model.specs.declared.exchange.Exchange.{Exchange}
 use Rattle.icet_model.specs.Exchange.{of_rank}
-use Rattle.icet_model.specs.Core.{sent, taken, due, after, start}
+use Rattle.icet_model.specs.Core.{sent, taken, due, after, start, IsEnabled}
 use Rattle.icet_model.specs.Plan.{PlanView, plan_exchanges}
 
 -- what comes of a try
@@ -27,6 +27,18 @@ try_of all cap done r (Some e) = cond (allows all cap done r e.kind e.peer) Move
 -- a rank of the plan makes its next exchange, is stalled, or has none left
 abbrev pub outcome : List (List Exchange) → ℕ → List ℕ → ℕ → Try
 outcome all cap done r = cond (nat_lt r (length all)) (try_of all cap done r (due all done r)) Absent
+
+-- what comes of a rank's try tells where the rank stands: it moves exactly where it is a rank of the plan
+-- that is enabled, it is done exactly where it has no exchange left, absent exactly where the plan has no
+-- such rank, and else stalled
+pub record TellsWhereItStands (all : List (List Exchange)) (cap : ℕ) (done : List ℕ) (r : ℕ) : Type 0 where
+  pub enabled : r < length all → IsEnabled all cap done r → outcome all cap done r ≡ Moved
+  pub moved : outcome all cap done r ≡ Moved → IsEnabled all cap done r
+  pub stalled : outcome all cap done r ≡ Stalled → IsEnabled all cap done r → ⊥
+  pub none_left : r < length all → due all done r ≡ None → outcome all cap done r ≡ Done
+  pub finished : outcome all cap done r ≡ Done → due all done r ≡ None
+  pub beyond : length all ≤ r → outcome all cap done r ≡ Absent
+  pub absent : outcome all cap done r ≡ Absent → length all ≤ r
 
 -- only an exchange that is made changes the counters
 abbrev pub after_try : List ℕ → ℕ → Try → List ℕ

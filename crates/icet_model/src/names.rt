@@ -31,4 +31,8 @@ pub struct Rect {
 pub enum Mode {
     /// The nearer fragment hides the other.
     Depth,
+    /// The front fragment stands over the other, where 255 is opaque.
+    Blend,
+    /// The front fragment stands over the other, where 65,535 is opaque.
+    WideBlend,
 }

@@ -53,8 +53,8 @@ showing_length t x r = go (x.display == r)
     go true = let h = folds_length t x x.contributors in omega (arith, h, length-append (folds t x x.contributors) (Keep 0 ∷ []))
     go false = omega arith
 
-pub program_length : (xs : List TileView) (r : ℕ) → AllByRecursion (λ x. length x.contributors ≤ 64) xs → length (direct_program xs r) ≤ 132 * length xs
+pub program_length : (xs : List TileView) (r : ℕ) → AllByRecursion (λ x. length x.contributors ≤ 256) xs → length (direct_program xs r) ≤ 516 * length xs
 program_length xs r few =
     let given = length_by_tile 2 (λ t x. sending t x r) 0 xs (always (λ x. (t : ℕ) → length (sending t x r) ≤ 2) (λ x t. sending_length t x r) xs) in
-    let shown = length_by_tile 130 (λ t x. showing t x r) 0 xs (all_weaker (λ x. length x.contributors ≤ 64) (λ x. (t : ℕ) → length (showing t x r) ≤ 130) (λ x l t. omega (arith, l, showing_length t x r)) xs few) in
+    let shown = length_by_tile 514 (λ t x. showing t x r) 0 xs (all_weaker (λ x. length x.contributors ≤ 256) (λ x. (t : ℕ) → length (showing t x r) ≤ 514) (λ x l t. omega (arith, l, showing_length t x r)) xs few) in
     omega (arith, given, shown, length-append (sendings 0 xs r) (showings 0 xs r))

@@ -23,8 +23,8 @@ below n (c ∷ cs) h q k = go (eqb q c) refl k (below n cs h.1 q)
     go true e k f = let l = h.0 in omega (arith, l, eqb-true q c e)
     go false e k f = f k
 
-few : (n : ℕ) (x : TileView) → n ≤ 64 → IsTile n x → length x.contributors ≤ 64
+few : (n : ℕ) (x : TileView) → n ≤ 256 → IsTile n x → length x.contributors ≤ 256
 few n x l i = omega (arith, l, length-le_from_distinct_below x.contributors n (distinct x.contributors (apart_from_pairs (λ a b. a ≢ b) x.contributors i.distinct)) (below n x.contributors i.contributors))
 
-pub program_short : (n r : ℕ) (xs : List TileView) → n ≤ 64 → length xs ≤ 16 → AreTiles n xs → length (direct_program xs r) < 4294967296
-program_short n r xs l m h = omega (arith, m, program_length xs r (all_weaker (IsTile n) (λ x. length x.contributors ≤ 64) (λ x i. few n x l i) xs h.each))
+pub program_short : (n r : ℕ) (xs : List TileView) → n ≤ 256 → length xs ≤ 64 → AreTiles n xs → length (direct_program xs r) < 4294967296
+program_short n r xs l m h = omega (arith, m, program_length xs r (all_weaker (IsTile n) (λ x. length x.contributors ≤ 256) (λ x i. few n x l i) xs h.each))

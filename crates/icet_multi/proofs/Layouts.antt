@@ -58,7 +58,7 @@ displays_differ (tile ∷ layout) (list ∷ who) h =
     (all_display (λ d. tile.display ≢ d) layout who (λ i d l. h 0 (suc i) d (omega arith) (omega arith)))
     (displays_differ layout who (λ i j d l m. h (suc i) (suc j) d (omega arith) (omega arith)))
 
-pub few_tiles : (layout : List AreaTile) (who : List (List ℕ)) → length who ≡ length layout → IsLayout layout → length (tile_ranks layout who) ≤ 16
+pub few_tiles : (layout : List AreaTile) (who : List (List ℕ)) → length who ≡ length layout → IsLayout layout → length (tile_ranks layout who) ≤ 64
 few_tiles layout who e l = omega (arith, tile_count layout who e, l.few)
 
 pub are_tiles : (ranks : ℕ) (order : List ℕ) (layout : List AreaTile) (who : List (List ℕ)) → HasEachOnce ranks order → All (λ tile. tile.display < ranks) layout → All (KeepsOrder order) who → IsLayout layout → AreTiles ranks (tile_ranks layout who)

@@ -10,3 +10,4 @@ pub mod Fewness
 pub mod Layouts
 pub mod OnTiles
 pub mod Picked
+pub mod SequentialPlan

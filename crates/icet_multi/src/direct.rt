@@ -16,8 +16,8 @@ use std::alloc::Global;
 ///
 /// `NoMemory`.
 pub fn direct(alloc: Global, ranks: u32, tiles: &[TileRanks]) -> Result<Plan, NoMemory>
-    requires ranks { ranks ≤ 64 }
-    requires few { length tiles.now ≤ 16 }
+    requires ranks { ranks ≤ 256 }
+    requires few { length tiles.now ≤ 64 }
     requires tiles { AreTiles ranks tiles.now }
     ensures plan { IfOk result (λ p. IsDirect ranks tiles.now p) }
     ensures programs { IfOk result (λ p. p ≡ direct_plan ranks tiles.now) }
@@ -61,8 +61,8 @@ fn brackets_of(alloc: Global, tiles: &[TileRanks]) -> Result<Vec<Bracket>, NoMem
 
 #[tactic(auto, using(crate::proofs::DirectSteps::listed_more))]
 fn programs_of(alloc: Global, ranks: u32, tiles: &[TileRanks]) -> Result<Vec<Program>, NoMemory>
-    requires ranks { ranks ≤ 64 }
-    requires few { length tiles.now ≤ 16 }
+    requires ranks { ranks ≤ 256 }
+    requires few { length tiles.now ≤ 64 }
     requires tiles { AreTiles ranks tiles.now }
     ensures { IfOk result (λ all. all.items ≡ map (direct_program tiles.now) (range_with_len 0 ranks)) }
 {
@@ -76,7 +76,7 @@ fn programs_of(alloc: Global, ranks: u32, tiles: &[TileRanks]) -> Result<Vec<Pro
 
 // a rank's operations: what it hands in, tile by tile, and then what it shows
 fn ops_of(alloc: Global, rank: Rank, tiles: &[TileRanks]) -> Result<Vec<Op>, NoMemory>
-    requires { length tiles.now ≤ 16 }
+    requires { length tiles.now ≤ 64 }
     ensures { IfOk result (λ ops. ops.items ≡ direct_program tiles.now rank) }
 {
     let mut ops = Vec::new(alloc);
@@ -86,7 +86,7 @@ fn ops_of(alloc: Global, rank: Rank, tiles: &[TileRanks]) -> Result<Vec<Op>, NoM
 }
 
 fn push_sendings(ops: &mut Vec<Op>, rank: Rank, tiles: &[TileRanks]) -> Result<(), NoMemory>
-    requires { length tiles.now ≤ 16 }
+    requires { length tiles.now ≤ 64 }
     ensures { IfOk result (λ _. ops.new.items ≡ ops.old.items ++ sendings 0 tiles.now rank) }
 {
     for t in 0..tiles.len() {
@@ -96,7 +96,7 @@ fn push_sendings(ops: &mut Vec<Op>, rank: Rank, tiles: &[TileRanks]) -> Result<(
 }
 
 fn push_showings(ops: &mut Vec<Op>, rank: Rank, tiles: &[TileRanks]) -> Result<(), NoMemory>
-    requires { length tiles.now ≤ 16 }
+    requires { length tiles.now ≤ 64 }
     ensures { IfOk result (λ _. ops.new.items ≡ ops.old.items ++ showings 0 tiles.now rank) }
 {
     for t in 0..tiles.len() {

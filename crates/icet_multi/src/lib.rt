@@ -2,8 +2,10 @@
 #![tactic(auto)]
 
 pub mod direct;
+pub mod examples;
 pub mod laws;
 pub mod planning;
+pub mod sequential;
 pub mod settings;
 pub mod tile;
 

@@ -11,7 +11,7 @@ use icet_tiles::{Contributors, Layout};
 use std::alloc::Global;
 
 /// The plan of the strategy for the tiles of a layout and for `ranks` ranks. Conditions: `who` has one
-/// list per tile; there are at most 64 ranks, and the display ranks are among them; `order` has each
+/// list per tile; there are at most 256 ranks, and the display ranks are among them; `order` has each
 /// rank once, and each list of `who` keeps the order.
 ///
 /// # Errors
@@ -26,7 +26,7 @@ pub fn plan(
     order: &[Rank],
     settings: &Settings,
 ) -> Result<Plan, NoMemory>
-    requires ranks { ranks ≤ 64 }
+    requires ranks { ranks ≤ 256 }
     requires lists { length who.now ≡ length layout.now }
     requires displays { All (λ tile. tile.display < ranks) layout.now }
     requires order { HasEachOnce ranks order.now }

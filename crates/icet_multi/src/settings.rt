@@ -10,6 +10,11 @@ pub enum Strategy {
 pub enum Single {
     /// Neighbours are joined, pair by pair, until one image is left.
     Tree,
+    /// Pairs exchange the halves of their pieces, round by round, where the number of ranks is first
+    /// folded down to a power of two.
+    Bswap,
+    /// Groups exchange the parts of their pieces, round by round, by the factors of the number of ranks.
+    Radixk,
 }
 
 /// What a plan is made by; `k` is the greatest factor of a strategy that splits into groups, from 2 to 64.

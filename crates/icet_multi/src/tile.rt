@@ -83,7 +83,8 @@ fn is_among(rank: Rank, ranks: &[Rank]) -> bool
     false
 }
 
-fn leaves(alloc: Global, ranks: &[Rank]) -> Result<Vec<Bracket>, NoMemory>
+// the leaf of each of these ranks
+pub(crate) fn leaves(alloc: Global, ranks: &[Rank]) -> Result<Vec<Bracket>, NoMemory>
     ensures { IfOk result (λ all. all.items ≡ map (λ r. Bracket.Leaf r) ranks.now) }
 {
     let mut all = Vec::new(alloc);

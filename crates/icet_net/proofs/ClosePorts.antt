@@ -1,14 +1,12 @@
 -- Ports that are taken out of lists of ports, and closed pair by pair.
 use Rattle.std.proofs.Common.{reverse, ◌≡◌, ◌≢◌, ℕ, zero, suc, ◌+◌, ◌<◌, ◌≤◌, Bool, true, false, cond, List, [], ◌∷◌, ◌++◌, map, length, get_or, take, drop, slice_set, slice_index_or, refl, sym, ap, ◌∙◌, subst, arith, Some, eq-eqb, ne_eqb, inl, inr}
-use Rattle.std.specs.Prelude.{◌⊎◌, ◌==◌}
+use Rattle.std.specs.Prelude.{◌⊎◌, ◌==◌, option_map}
 use Rattle.std.specs.List.{slice_get}
 use Rattle.std.specs.Option.{ForSome}
-use Rattle.icet_model.specs.Pixel.{Pixel}
-use Rattle.icet_model.specs.Run.{MessageView}
-use Rattle.icet_model.specs.Ports.{by_peer}
-use Rattle.icet_model.specs.Wires.{Pairing}
+use Rattle.icet_model.specs.Ports.{by_peer, port_views}
+use Rattle.icet_model.specs.Wires.{PortView}
 use Rattle.icet_rank.specs.Moves.{HasPeer, port_to}
-use Rattle.icet_rank.proofs.PortMoves.{has_paired, by_port}
+use Rattle.icet_rank.proofs.PortMoves.{has_paired, by_port, peer_there}
 use Rattle.std.proofs.lemmas.List.{append_assoc, map-append, take_more, take_all, reverse-append}
 use Rattle.icet_net.specs.Opening.{ports_of}
 use Rattle.icet_net.specs.CloseSteps.{IsClosable, LosesPort, KeepsPortsFrom, IsTaken, AreDistinct, entry_of}
@@ -103,7 +101,7 @@ module _ {P : Type 0} where
   pub has_port : (peer : ℕ) (x : P) (ports : List (ℕ × P)) → port_to ports peer ≡ Some x → HasPeer peer ports
   has_port peer x ports h = has_paired (λ p. p) peer x ports h
 
-module _ {X P : Type 0} (f : X → List (ℕ × P)) where
+module _ {X : Type 0} (f : X → List (ℕ × PortView)) where
   set_there : (xs : List X) (i a : ℕ) (y : X) → a ≢ i → get_or (map f (slice_set xs i y)) a [] ≡ get_or (map f xs) a []
   set_there [] i a y n = refl
   set_there (x ∷ xs) zero zero y n = absurd (n refl)
@@ -120,6 +118,10 @@ module _ {X P : Type 0} (f : X → List (ℕ × P)) where
   at_here [] i d l = absurd (omega (arith, l))
   at_here (x ∷ xs) zero d l = refl
   at_here (x ∷ xs) (suc i) d l = at_here xs i d (omega (arith, l))
+
+  -- the list of the element that an index gives
+  pub element : (xs : List X) (s q : ℕ) (d : X) → s ≡ q → q < length xs → ports_of (map f xs) q ≡ f (slice_index_or xs s d)
+  element xs s q d e l = ap (λ i. get_or (map f xs) i []) (sym e) ∙ at_here xs s d (omega (arith, e, l))
 
   set_long : (xs : List X) (i : ℕ) (y : X) → length (map f (slice_set xs i y)) ≡ length (map f xs)
   set_long [] i y = refl
@@ -143,33 +145,50 @@ module _ {X P : Type 0} (f : X → List (ℕ × P)) where
           ∙ (ap (λ ps. port_to ps b) (sym (at_here xs s d ls))
           ∙ ap (λ i. port_to (ports_of (map f xs) i) b) (sym z))))
 
+-- ports as code has them, in reverse, and what contracts see of them
+module _ {P : Type 0} (view : P → PortView) where
+  pub map_reverse : (items : List (ℕ × P)) → reverse (port_views view items) ≡ port_views view (reverse items)
+  map_reverse [] = refl
+  map_reverse (e ∷ es) = reverse-append ((e.0, view e.1) ∷ []) (port_views view es) ∙ (ap (λ xs. xs ++ (e.0, view e.1) ∷ []) (map_reverse es) ∙ (sym (map-append (λ (p : ℕ × P). (p.0, view p.1)) (reverse es) (e ∷ [])) ∙ ap (port_views view) (sym (reverse-append (e ∷ []) es))))
+
+  view_there : (items : List (ℕ × P)) (k : ℕ) → port_to (port_views view items) k ≡ option_map view (port_to items k)
+  view_there [] k = refl
+  view_there (e ∷ es) k = go (e.0 == k) (view_there es k)
+    where
+      go : (b : Bool) → port_to (port_views view es) k ≡ option_map view (port_to es k) → cond b (Some (view e.1)) (port_to (port_views view es) k) ≡ option_map view (cond b (Some e.1) (port_to es k))
+      go true h = refl
+      go false h = h
+
+  -- the port to a peer, seen in the reversed list
+  pub seen_reversed : (items : List (ℕ × P)) (k : ℕ) → port_to (reverse (port_views view items)) k ≡ option_map view (port_to (reverse items) k)
+  seen_reversed items k = ap (λ xs. port_to xs k) (map_reverse items) ∙ view_there (reverse items) k
+
+  pub has_reversed : (peer : ℕ) (items : List (ℕ × P)) → HasPeer peer (reverse (port_views view items)) → HasPeer peer (reverse items)
+  has_reversed peer items h = peer_there view peer (reverse items) (subst (HasPeer peer) (map_reverse items) h)
+
 -- what a write leaves of a meaning that doesn't read what was written
 pub set_same : {X Y : Type 0} (f : X → Y) (xs : List X) (s : ℕ) (d y : X) → f y ≡ f (slice_index_or xs s d) → map f (slice_set xs s y) ≡ map f xs
 set_same f [] s d y e = refl
 set_same f (x ∷ xs) zero d y e = ap (λ z. z ∷ map f xs) e
 set_same f (x ∷ xs) (suc s) d y e = ap (λ zs. f x ∷ zs) (set_same f xs s d y e)
 
-module _ {I O : Type 0} (taken : I → List (MessageView (List Pixel))) (in_pairing : I → Pairing) (sent : O → List (MessageView (List Pixel))) (out_pairing : O → Pairing) where
-  -- what was taken on a pair is what was sent, once its two ports say so
-  pub pair_taken : (outs : List (List (ℕ × O))) (ins ins' : List (List (ℕ × I))) (q r : ℕ) (out : O) (inbox : I) → port_to (ports_of outs q) r ≡ Some out → ins' ≡ ins → port_to (ports_of ins' r) q ≡ Some inbox → taken inbox ≡ sent out → IsTaken taken sent outs ins (q, r)
-  pair_taken outs ins ins' q r out inbox ho e hi same = read_port taken [] (ports_of ins r) q inbox (ap (λ zs. port_to (ports_of zs r) q) (sym e) ∙ hi) ∙ (same ∙ sym (read_port sent [] (ports_of outs q) r out ho))
+-- what was taken on a pair is what was sent, once its two ports say so
+pub pair_taken : (outs ins ins' : List (List (ℕ × PortView))) (q r : ℕ) (out inbox : PortView) → port_to (ports_of outs q) r ≡ Some out → ins' ≡ ins → port_to (ports_of ins' r) q ≡ Some inbox → inbox.messages ≡ out.messages → IsTaken outs ins (q, r)
+pair_taken outs ins ins' q r out inbox ho e hi same = read_port (λ (p : PortView). p.messages) [] (ports_of ins r) q inbox (ap (λ zs. port_to (ports_of zs r) q) (sym e) ∙ hi) ∙ (same ∙ sym (read_port (λ (p : PortView). p.messages) [] (ports_of outs q) r out ho))
 
-  -- a pair can be closed as long as its ports stand
-  pub still_closable : (outs outs' : List (List (ℕ × O))) (ins ins' : List (List (ℕ × I))) (q r : ℕ) → length outs' ≡ length outs → length ins' ≡ length ins → port_to (ports_of outs' q) r ≡ port_to (ports_of outs q) r → port_to (ports_of ins' r) q ≡ port_to (ports_of ins r) q → IsClosable taken in_pairing sent out_pairing outs ins q r → IsClosable taken in_pairing sent out_pairing outs' ins' q r
-  still_closable outs outs' ins ins' q r lo li ho hi c = record {
-    from_within = let l = c.from_within in omega (arith, l, lo);
-    to_within = let l = c.to_within in omega (arith, l, li);
-    out = c.out;
-    inbox = c.inbox;
-    out_is = ho ∙ c.out_is;
-    inbox_is = hi ∙ c.inbox_is;
-    paired = c.paired;
-    from_is = c.from_is;
-    to_is = c.to_is;
-    all_taken = c.all_taken;
-  }
+-- a pair can be closed as long as its ports stand
+pub still_closable : (outs outs' ins ins' : List (List (ℕ × PortView))) (q r : ℕ) → length outs' ≡ length outs → length ins' ≡ length ins → port_to (ports_of outs' q) r ≡ port_to (ports_of outs q) r → port_to (ports_of ins' r) q ≡ port_to (ports_of ins r) q → IsClosable outs ins q r → IsClosable outs' ins' q r
+still_closable outs outs' ins ins' q r lo li ho hi c = record {
+  from_within = let l = c.from_within in omega (arith, l, lo);
+  to_within = let l = c.to_within in omega (arith, l, li);
+  out = c.out;
+  inbox = c.inbox;
+  out_is = ho ∙ c.out_is;
+  inbox_is = hi ∙ c.inbox_is;
+  taken_pair = c.taken_pair;
+}
 
-module _ {I O : Type 0} (pairs : List (ℕ × ℕ)) (distinct : AreDistinct pairs) (outs0 outs1 outs2 : List (List (ℕ × O))) (ins0 ins1 ins2 : List (List (ℕ × I))) where
+module _ (pairs : List (ℕ × ℕ)) (distinct : AreDistinct pairs) (outs0 outs1 outs2 : List (List (ℕ × PortView))) (ins0 ins1 ins2 : List (List (ℕ × PortView))) where
   pub keeps_none : (n : ℕ) → KeepsPortsFrom n pairs outs0 outs0 ins0 ins0
   keeps_none n = record { out_count = refl; in_count = refl; outs = λ j p l h. refl; ins = λ j p l h. refl }
 
@@ -225,9 +244,9 @@ module _ {E : Type 0} where
       ∙ (ap (λ zs. l0 ++ zs) (sym (map-append f (take i pairs) (get_or pairs i d ∷ [])))
       ∙ ap (λ zs. l0 ++ map f zs) (sym (take_more pairs i d l))))))
 
-module _ {I O : Type 0} (taken : I → List (MessageView (List Pixel))) (sent : O → List (MessageView (List Pixel))) (pairs : List (ℕ × ℕ)) (outs0 outs1 : List (List (ℕ × O))) (ins0 ins1 : List (List (ℕ × I))) (i : ℕ) (x : ℕ × ℕ) (at : slice_get pairs i ≡ Some x) (keeps : KeepsPortsFrom i pairs outs0 outs1 ins0 ins1) where
-  pub entry_before : entry_of sent outs1 x ≡ entry_of sent outs0 x
-  entry_before = ap (λ ms. record { from = x.0; to = x.1; messages = ms }) (by_port sent [] (ports_of outs0 x.0) (ports_of outs1 x.0) x.1 (keeps.outs i x (omega arith) at))
+module _ (pairs : List (ℕ × ℕ)) (outs0 outs1 : List (List (ℕ × PortView))) (ins0 ins1 : List (List (ℕ × PortView))) (i : ℕ) (x : ℕ × ℕ) (at : slice_get pairs i ≡ Some x) (keeps : KeepsPortsFrom i pairs outs0 outs1 ins0 ins1) where
+  pub entry_before : entry_of outs1 x ≡ entry_of outs0 x
+  entry_before = ap (λ ms. record { from = x.0; to = x.1; messages = ms }) (by_port (λ (p : PortView). p.messages) [] (ports_of outs0 x.0) (ports_of outs1 x.0) x.1 (keeps.outs i x (omega arith) at))
 
-  pub taken_before : IsTaken taken sent outs1 ins1 x → IsTaken taken sent outs0 ins0 x
-  taken_before h = sym (by_port taken [] (ports_of ins0 x.1) (ports_of ins1 x.1) x.0 (keeps.ins i x (omega arith) at)) ∙ (h ∙ by_port sent [] (ports_of outs0 x.0) (ports_of outs1 x.0) x.1 (keeps.outs i x (omega arith) at))
+  pub taken_before : IsTaken outs1 ins1 x → IsTaken outs0 ins0 x
+  taken_before h = sym (by_port (λ (p : PortView). p.messages) [] (ports_of ins0 x.1) (ports_of ins1 x.1) x.0 (keeps.ins i x (omega arith) at)) ∙ (h ∙ by_port (λ (p : PortView). p.messages) [] (ports_of outs0 x.0) (ports_of outs1 x.0) x.1 (keeps.outs i x (omega arith) at))

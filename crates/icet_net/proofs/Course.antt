@@ -15,15 +15,14 @@ use Rattle.icet_model.specs.Run.{Piece, MessageView}
 use Rattle.icet_model.specs.Core.{passed}
 use Rattle.icet_model.specs.Flow.{program}
 use Rattle.icet_model.specs.Plan.{PlanView, IsPlan, plan_exchanges, pixel_carrier, AreWhole}
-use Rattle.icet_model.specs.Ports.{at_list, by_peer, IsAt}
-use Rattle.icet_model.specs.Wires.{Pairing}
+use Rattle.icet_model.specs.Ports.{messages_to, at_list, IsAt}
 use Rattle.icet_rank.specs.Machine.{MachineView, sizes_of, content_at}
 use Rattle.icet_plan.proofs.Headings.{sent_passed, used_passed}
 use Rattle.icet_plan.proofs.MachineNets.{Front, counter_at}
 use Rattle.icet_plan.proofs.PlanFlows.{of_program}
 use Rattle.icet_plan.proofs.PlanNets.{pixels_of, sent_is_front, counters_are_lawful}
 use Rattle.icet_net.specs.Net.{HullView, messages_on}
-use Rattle.icet_net.specs.Ranks.{machine_at, no_machine, mode_of, images_of, counters, out_at, in_at, AreWholeImages, AreHulls, AreAllSynced, IsOnCourse}
+use Rattle.icet_net.specs.Ranks.{machine_at, no_machine, mode_of, images_of, counters, AreWholeImages, AreHulls, AreAllSynced, IsOnCourse, sent_on, taken_on}
 use Rattle.icet_net.specs.Syncs.{AreRunning}
 
 -- each image has its tile's number of pixels
@@ -64,11 +63,11 @@ none_long : {X : Type 0} (xs : List X) → length xs ≤ 0 → xs ≡ []
 none_long [] h = refl
 none_long (x ∷ xs) h = absurd (omega (arith, h))
 
-module _ {I O : Type 0} (taken : I → List (MessageView (List Pixel))) (in_room : I → ℕ) (in_pairing : I → Pairing) (sent : O → List (MessageView (List Pixel))) (out_room : O → ℕ) (out_pairing : O → Pairing) (hull : HullView) (ms : List (MachineView I O)) (is : IsPlan hull.plan) (hulls : AreHulls in_pairing out_pairing hull ms) (running : AreRunning taken in_room sent out_room ms) where
+module _ (hull : HullView) (ms : List MachineView) (is : IsPlan hull.plan) (hulls : AreHulls hull ms) (running : AreRunning ms) where
   first_machine : (r : ℕ) → r < length ms → get_or ms r (machine_at ms 0) ≡ machine_at ms r
   first_machine = go ms (machine_at ms 0)
     where
-      go : (xs : List (MachineView I O)) (d : MachineView I O) (r : ℕ) → r < length xs → get_or xs r d ≡ machine_at xs r
+      go : (xs : List MachineView) (d : MachineView) (r : ℕ) → r < length xs → get_or xs r d ≡ machine_at xs r
       go [] d r l = absurd (omega (arith, l))
       go (x ∷ xs) d zero l = refl
       go (x ∷ xs) d (suc r) l = go xs d r (omega (arith, l))
@@ -78,8 +77,8 @@ module _ {I O : Type 0} (taken : I → List (MessageView (List Pixel))) (in_room
       let some = some_rank hull.plan is (omega (arith, l)) in
       let n = hulls.count in
       ⊎_elim
-      (λ (h : r < length ms). ap (λ (m : MachineView I O). length (content_at m.images t)) (first_machine r h) ∙ whole_long hull.plan.tiles.sizes (machine_at ms r).images t (hulls.each r h).images l)
-      (λ (h : length ms ≤ r). ap (λ (m : MachineView I O). length (content_at m.images t)) (get_or_past ms r (machine_at ms 0) h) ∙ whole_long hull.plan.tiles.sizes (machine_at ms 0).images t (hulls.each 0 (omega (arith, n, some))).images l)
+      (λ (h : r < length ms). ap (λ (m : MachineView). length (content_at m.images t)) (first_machine r h) ∙ whole_long hull.plan.tiles.sizes (machine_at ms r).images t (hulls.each r h).images l)
+      (λ (h : length ms ≤ r). ap (λ (m : MachineView). length (content_at m.images t)) (get_or_past ms r (machine_at ms 0) h) ∙ whole_long hull.plan.tiles.sizes (machine_at ms 0).images t (hulls.each 0 (omega (arith, n, some))).images l)
       (cases_lt r (length ms))
 
   abbrev pub place_at : ℕ → ℕ
@@ -98,32 +97,32 @@ module _ {I O : Type 0} (taken : I → List (MessageView (List Pixel))) (in_room
   beyond : (r : ℕ) → length ms ≤ r → machine_at ms r ≡ no_machine
   beyond r h = get_or_past ms r no_machine h
 
-  pub at : (r : ℕ) → IsAt (pixels_of (mode_of ms) hull.plan is (images_of ms) sized r) r (program hull.plan.programs r) (place_at r) (λ p. in_at taken [] ms p r) (slots_of r) (kept_at r) (λ q. out_at sent [] ms r q)
+  pub at : (r : ℕ) → IsAt (pixels_of (mode_of ms) hull.plan is (images_of ms) sized r) r (program hull.plan.programs r) (place_at r) (λ p. taken_on ms p r) (slots_of r) (kept_at r) (λ q. sent_on ms r q)
   at r =
       ⊎_elim
       (λ (h : r < length ms).
       let o = hulls.each r h in
       let m = machine_at ms r in
-      carry {T = ℕ} m.mode (mode_of ms) (sizes_of m.images) hull.plan.tiles.sizes (content_at m.images) (images_of ms r) m.number r m.ops (program hull.plan.programs r) m.place (by_peer taken [] m.inboxes) (at_list m.slots) m.kept (by_peer sent [] m.outboxes) refl o.mode_is o.images.sizes_are (fun_ext (λ t. ap (λ (z : MachineView I O). content_at z.images t) (sym (first_machine r h)))) o.number o.ops (running.each r h).runs.is_at)
+      carry {T = ℕ} m.mode (mode_of ms) (sizes_of m.images) hull.plan.tiles.sizes (content_at m.images) (images_of ms r) m.number r m.ops (program hull.plan.programs r) m.place (messages_to m.inboxes) (at_list m.slots) m.kept (messages_to m.outboxes) refl o.mode_is o.images.sizes_are (fun_ext (λ t. ap (λ (z : MachineView). content_at z.images t) (sym (first_machine r h)))) o.number o.ops (running.each r h).runs.is_at)
       (λ (h : length ms ≤ r).
       let c = pixels_of (mode_of ms) hull.plan is (images_of ms) sized r in
       let ops = program hull.plan.programs r in
-      subst (λ (m : MachineView I O). IsAt c r ops m.place (by_peer taken [] m.inboxes) (at_list m.slots) m.kept (by_peer sent [] m.outboxes)) (sym (beyond r h)) (record { slots_are = fun_ext (λ k. refl); kept_are = refl; sent_are = λ q. refl; used_are = λ q. refl }))
+      subst (λ (m : MachineView). IsAt c r ops m.place (messages_to m.inboxes) (at_list m.slots) m.kept (messages_to m.outboxes)) (sym (beyond r h)) (record { slots_are = fun_ext (λ k. refl); kept_are = refl; sent_are = λ q. refl; used_are = λ q. refl }))
       (cases_lt r (length ms))
 
   pub within : (r : ℕ) → place_at r ≤ length (program hull.plan.programs r)
   within r =
       ⊎_elim
       (λ (h : r < length ms). let w = (running.each r h).runs.within in let e = ap length (hulls.each r h).ops in omega (arith, w, e))
-      (λ (h : length ms ≤ r). let e = ap (λ (m : MachineView I O). m.place) (beyond r h) in omega (arith, e))
+      (λ (h : length ms ≤ r). let e = ap (λ (m : MachineView). m.place) (beyond r h) in omega (arith, e))
       (cases_lt r (length ms))
 
   pub counted : (r : ℕ) → get_or (counters ms) r 0 ≡ counter_at (program hull.plan.programs r) (place_at r)
   counted r =
-      get_or-map (λ (m : MachineView I O). m.counter) ms r no_machine
+      get_or-map (λ (m : MachineView). m.counter) ms r no_machine
       ∙ ⊎_elim
       (λ (h : r < length ms). (running.each r h).runs.count ∙ ap (λ ops. length (exchanges (take (place_at r) ops))) (hulls.each r h).ops)
-      (λ (h : length ms ≤ r). ap (λ (m : MachineView I O). m.counter) (beyond r h) ∙ ap (λ n. length (exchanges (take n (program hull.plan.programs r)))) (sym (ap (λ (m : MachineView I O). m.place) (beyond r h))))
+      (λ (h : length ms ≤ r). ap (λ (m : MachineView). m.counter) (beyond r h) ∙ ap (λ n. length (exchanges (take n (program hull.plan.programs r)))) (sym (ap (λ (m : MachineView). m.place) (beyond r h))))
       (cases_lt r (length ms))
 
   -- a pair that carries nothing has nothing
@@ -136,39 +135,39 @@ module _ {I O : Type 0} (taken : I → List (MessageView (List Pixel))) (in_room
   sends_on : (q r : ℕ) → length (filter (sends_to r) (exchanges (program hull.plan.programs q))) ≡ messages_on hull.plan q r
   sends_on q r = ap (λ xs. length (filter (sends_to r) xs)) (sym (of_program hull.plan.programs q))
 
-  none_sent : (q r : ℕ) → messages_on hull.plan q r ≤ 0 → out_at sent [] ms q r ≡ []
+  none_sent : (q r : ℕ) → messages_on hull.plan q r ≤ 0 → sent_on ms q r ≡ []
   none_sent q r l =
       let c = pixels_of (mode_of ms) hull.plan is (images_of ms) sized q in
       let ops = program hull.plan.programs q in
-      none_long (out_at sent [] ms q r) (let a = ap length ((at q).sent_are r) in let b = sent_passed c q (λ p. in_at taken [] ms p q) ops (place_at q) r in let d = passed_within (sends_to r) (length (exchanges (take (place_at q) ops))) (exchanges ops) in let e = sends_on q r in omega (arith, a, b, d, e, l))
+      none_long (sent_on ms q r) (let a = ap length ((at q).sent_are r) in let b = sent_passed c q (λ p. taken_on ms p q) ops (place_at q) r in let d = passed_within (sends_to r) (length (exchanges (take (place_at q) ops))) (exchanges ops) in let e = sends_on q r in omega (arith, a, b, d, e, l))
 
-  none_taken : (q r : ℕ) → messages_on hull.plan q r ≤ 0 → in_at taken [] ms q r ≡ []
+  none_taken : (q r : ℕ) → messages_on hull.plan q r ≤ 0 → taken_on ms q r ≡ []
   none_taken q r l =
       let c = pixels_of (mode_of ms) hull.plan is (images_of ms) sized r in
       let ops = program hull.plan.programs r in
-      none_long (in_at taken [] ms q r) (let a = (at r).used_are q in let b = used_passed c r (λ p. in_at taken [] ms p r) ops (place_at r) q in let d = passed_within (takes_from q) (length (exchanges (take (place_at r) ops))) (exchanges ops) in let e = takes_on q r in omega (arith, a, b, d, e, l))
+      none_long (taken_on ms q r) (let a = (at r).used_are q in let b = used_passed c r (λ p. taken_on ms p r) ops (place_at r) q in let d = passed_within (takes_from q) (length (exchanges (take (place_at r) ops))) (exchanges ops) in let e = takes_on q r in omega (arith, a, b, d, e, l))
 
-  pub fronts : ((q r : ℕ) → 0 < messages_on hull.plan q r → Front (in_at taken [] ms q r) (out_at sent [] ms q r)) → (q r : ℕ) → Front (in_at taken [] ms q r) (out_at sent [] ms q r)
+  pub fronts : ((q r : ℕ) → 0 < messages_on hull.plan q r → Front (taken_on ms q r) (sent_on ms q r)) → (q r : ℕ) → Front (taken_on ms q r) (sent_on ms q r)
   fronts f q r =
       ⊎_elim
       (λ (h : 0 < messages_on hull.plan q r). f q r h)
       (λ (h : messages_on hull.plan q r ≤ 0). record { more = []; is = none_sent q r h ∙ ap (λ xs. xs ++ []) (sym (none_taken q r h)) })
       (cases_lt 0 (messages_on hull.plan q r))
 
-  module _ (known : I → ℕ) (free_known : O → ℕ) (synced : AreAllSynced taken known sent free_known hull ms) where
-    linked : (q r : ℕ) → Front (in_at taken [] ms q r) (out_at sent [] ms q r)
+  module _ (synced : AreAllSynced hull ms) where
+    linked : (q r : ℕ) → Front (taken_on ms q r) (sent_on ms q r)
     linked = fronts (λ q r h. let s = synced.synced q r h in record { more = s.waiting; is = s.carried })
 
-    held : (q r : ℕ) → length (out_at sent [] ms q r) ≤ length (in_at taken [] ms q r) + hull.cap
+    held : (q r : ℕ) → length (sent_on ms q r) ≤ length (taken_on ms q r) + hull.cap
     held q r =
         ⊎_elim
-        (λ (h : 0 < messages_on hull.plan q r). let s = synced.synced q r h in let a = ap length s.carried in let b = length-append (in_at taken [] ms q r) s.waiting in let d = s.held in omega (arith, a, b, d))
+        (λ (h : 0 < messages_on hull.plan q r). let s = synced.synced q r h in let a = ap length s.carried in let b = length-append (taken_on ms q r) s.waiting in let d = s.held in omega (arith, a, b, d))
         (λ (h : messages_on hull.plan q r ≤ 0). let a = ap length (none_sent q r h) in omega (arith, a))
         (cases_lt 0 (messages_on hull.plan q r))
 
-    pub on_course : IsOnCourse taken sent hull ms
+    pub on_course : IsOnCourse hull ms
     on_course = record {
-      lawful = counters_are_lawful (mode_of ms) hull.plan is (images_of ms) sized place_at (in_at taken [] ms) slots_of kept_at (out_at sent [] ms) at linked hull.cap (counters ms) (length-map ms (λ (m : MachineView I O). m.counter) ∙ hulls.count) counted held;
-      sent_fronts = λ q r. let f = sent_is_front (mode_of ms) hull.plan is (images_of ms) sized place_at (in_at taken [] ms) slots_of kept_at (out_at sent [] ms) at linked within q r in record { more = f.more; is = f.is };
+      lawful = counters_are_lawful (mode_of ms) hull.plan is (images_of ms) sized place_at (taken_on ms) slots_of kept_at (sent_on ms) at linked hull.cap (counters ms) (length-map ms (λ (m : MachineView). m.counter) ∙ hulls.count) counted held;
+      sent_fronts = λ q r. let f = sent_is_front (mode_of ms) hull.plan is (images_of ms) sized place_at (taken_on ms) slots_of kept_at (sent_on ms) at linked within q r in record { more = f.more; is = f.is };
       taken_fronts = λ q r. let f = linked q r in record { more = f.more; is = f.is };
     }

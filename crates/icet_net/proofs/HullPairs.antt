@@ -4,9 +4,6 @@ use Rattle.std.specs.List.{slice_get}
 use Rattle.std.specs.declared.result.Result.{Result}
 use Rattle.std.specs.declared.result.Result.TheVariants.{Ok, Err}
 use Rattle.std.proofs.lemmas.Option.{slice_get_within}
-use Rattle.icet_model.specs.Pixel.{Pixel}
-use Rattle.icet_model.specs.Run.{MessageView}
-use Rattle.icet_model.specs.Wires.{Pairing}
 use Rattle.icet_rank.specs.Moves.{ArePaired}
 use Rattle.icet_rank.specs.Machine.{MachineView}
 use Rattle.icet_net.specs.Net.{HullView, IsHull}
@@ -29,7 +26,7 @@ hull_used hull i p is e = is_used hull.plan i p (ap (λ ps. slice_get ps i) (sym
 pub hull_apart : (hull : HullView) (i : ℕ) (p : ℕ × ℕ) → IsHull hull → slice_get hull.pairs i ≡ Some p → p.0 ≢ p.1
 hull_apart hull i p is e = used_apart hull.plan is.plan p.0 p.1 (hull_used hull i p is e).carries
 
-module _ {I O : Type 0} (in_pairing : I → Pairing) (out_pairing : O → Pairing) (hull : HullView) (machines : List (MachineView I O)) (i : ℕ) (p : ℕ × ℕ) (hulls : AreHulls in_pairing out_pairing hull machines) (is : IsHull hull) (at : slice_get hull.pairs i ≡ Some p) where
+module _ (hull : HullView) (machines : List MachineView) (i : ℕ) (p : ℕ × ℕ) (hulls : AreHulls hull machines) (is : IsHull hull) (at : slice_get hull.pairs i ≡ Some p) where
   pub hull_from : p.0 < length machines
   hull_from = let u = (hull_used hull i p is at).from in let e = hulls.count in omega (arith, u, e)
 
@@ -42,12 +39,12 @@ module _ {I O : Type 0} (in_pairing : I → Pairing) (out_pairing : O → Pairin
   pub hull_receiver : (machine_at machines p.1).number ≡ p.1
   hull_receiver = (hulls.each p.1 hull_to).number
 
-  pub hull_paired : (cap : ℕ) → cap ≡ hull.cap → ArePaired out_pairing in_pairing p.0 p.1 cap (machine_at machines p.0).outboxes (machine_at machines p.1).inboxes
+  pub hull_paired : (cap : ℕ) → cap ≡ hull.cap → ArePaired p.0 p.1 cap (machine_at machines p.0).outboxes (machine_at machines p.1).inboxes
   hull_paired cap e = let o = hulls.opened p.0 p.1 (hull_used hull i p is at).carries in record { pairing = o.pairing; out = o.out; inbox = o.inbox; cap_is = o.cap_is ∙ sym e }
 
 -- once all pairs of the list have met, each used one has
-pub all_met : {I O : Type 0} (taken : I → List (MessageView (List Pixel))) (known : I → ℕ) (sent : O → List (MessageView (List Pixel))) (free_known : O → ℕ) (hull : HullView) (machines : List (MachineView I O)) (n : ℕ) → IsHull hull → length hull.pairs ≤ n → AreSyncedBelow taken known sent free_known n hull.cap hull.pairs machines → AreAllSynced taken known sent free_known hull machines
-all_met taken known sent free_known hull machines n is l below = record {
+pub all_met : (hull : HullView) (machines : List MachineView) (n : ℕ) → IsHull hull → length hull.pairs ≤ n → AreSyncedBelow n hull.cap hull.pairs machines → AreAllSynced hull machines
+all_met hull machines n is l below = record {
   synced = λ q r used.
       let at = place_of_used hull.plan is.plan q r used in
       let there : slice_get hull.pairs at.place ≡ Some (q, r) = ap (λ ps. slice_get ps at.place) is.pairs ∙ at.is in

@@ -1,5 +1,5 @@
 -- The nearest of ascending leaves is the least pair of depth and rank.
-use Rattle.std.proofs.Common.{◌≡◌, ℕ, zero, suc, ◌+◌, ◌<◌, ◌≤◌, List, [], ◌∷◌, map, length, get_or, Option, Some, None, refl, sym, ap, ◌∙◌, subst, arith, inl, inr, ◌⊎◌}
+use Rattle.std.proofs.Common.{◌≡◌, ℕ, zero, suc, ◌<◌, ◌≤◌, List, [], ◌∷◌, map, get_or, Some, None, refl, sym, ap, ◌∙◌, arith, inl, inr}
 use Rattle.std.specs.Prelude.{slice_get, slice_index_or, option_map, AllPairs}
 use Rattle.std.proofs.lemmas.Bool.{cases_lt}
 use Rattle.std.proofs.lemmas.Option.{slice_get-map, slice_get_within}
@@ -7,7 +7,7 @@ use Rattle.icet_model.specs.declared.bracket.Bracket.{Bracket}
 use Rattle.icet_model.specs.declared.names.Mode.TheVariants.{Depth}
 use Rattle.icet_model.specs.Pixel.{FragmentView, Pixel}
 use Rattle.icet_model.specs.Bracket.{Images, leaves, value}
-use Rattle.icet_model.specs.Composite.{nearest, ComesBefore, IsLeast}
+use Rattle.icet_model.specs.Composite.{nearest, ComesBefore}
 use Rattle.icet_model.proofs.Nearest.{nearest_some, nearest_none}
 use Rattle.icet_model.proofs.NearestLeaf.{value_nearest}
 use Rattle.icet_net.specs.NearestLeaf.{HasAscendingLeaves, IsLeastOf}

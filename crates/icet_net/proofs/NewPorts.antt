@@ -3,8 +3,8 @@ use Rattle.std.proofs.Common.{◌≡◌, ◌≢◌, ℕ, ◌+◌, ◌<◌, ◌�
 use Rattle.std.specs.Prelude.{◌==◌}
 use Rattle.std.specs.List.{AllByRecursion}
 use Rattle.std.proofs.lemmas.Bool.{cases_lt}
-use Rattle.icet_model.specs.Ports.{by_peer, AreAscending}
-use Rattle.icet_model.specs.Wires.{Pairing}
+use Rattle.icet_model.specs.Ports.{by_peer, room_to, AreAscending}
+use Rattle.icet_model.specs.Wires.{PortView, IsNewPair}
 use Rattle.icet_net.specs.Opening.{AreNewPorts, IsOpenedPair, KeepsPortsBut}
 
 all_push : {X : Type 0} (Q : X → Type 0) (xs : List X) (x : X) → AllByRecursion Q xs → Q x → AllByRecursion Q (xs ++ x ∷ [])
@@ -33,48 +33,47 @@ module _ {P : Type 0} where
     past [] b k l a = refl
     past (e ∷ es) b k l a = ap (λ (t : Bool). cond t (f e.1) (by_peer f d es k)) (ne_eqb e.0 k (λ z. let h = a.0 in omega (arith, h, z, l))) ∙ past es b k l a.1
 
-  pub push_others : (xs : List (ℕ × P)) (b : ℕ) (x : P) → KeepsPortsBut b xs (xs ++ (b, x) ∷ [])
-  push_others xs b x = record { others = λ k n. push_there (λ p. Some p) None xs b k x n }
+pub push_others : (xs : List (ℕ × PortView)) (b : ℕ) (x : PortView) → KeepsPortsBut b xs (xs ++ (b, x) ∷ [])
+push_others xs b x = record { others = λ k n. push_there (λ p. Some p) None xs b k x n }
 
-  module _ {M : Type 0} (lists : P → List M) (room : P → ℕ) where
-    pub none_new : (count : ℕ → ℕ) → AreNewPorts lists room count 0 []
-    none_new count = record { ascend = tt; below = tt; empty = tt; rooms = λ k l. absurd (omega (arith, l)) }
+pub none_new : (count : ℕ → ℕ) → AreNewPorts count 0 []
+none_new count = record { ascend = tt; below = tt; empty = tt; rooms = λ k l. absurd (omega (arith, l)) }
 
-    pub skip_new : (count : ℕ → ℕ) (b n : ℕ) (xs : List (ℕ × P)) → count b ≡ n → n ≡ 0 → AreNewPorts lists room count b xs → AreNewPorts lists room count (b + 1) xs
-    skip_new count b n xs e z h = record {
-      ascend = h.ascend;
-      below = all_wider b (b + 1) (omega arith) xs h.below;
-      empty = h.empty;
-      rooms = λ k l.
-          ⊎_elim
-          (λ (m : k < b). h.rooms k m)
-          (λ (m : b ≤ k). past room 0 xs b k m h.below ∙ sym (ap count (let y : k ≡ b = omega (arith, l, m) in y) ∙ (e ∙ z)))
-          (cases_lt k b);
-    }
+pub skip_new : (count : ℕ → ℕ) (b n : ℕ) (xs : List (ℕ × PortView)) → count b ≡ n → n ≡ 0 → AreNewPorts count b xs → AreNewPorts count (b + 1) xs
+skip_new count b n xs e z h = record {
+  ascend = h.ascend;
+  below = all_wider b (b + 1) (omega arith) xs h.below;
+  empty = h.empty;
+  rooms = λ k l.
+      ⊎_elim
+      (λ (m : k < b). h.rooms k m)
+      (λ (m : b ≤ k). past (λ p. p.room) 0 xs b k m h.below ∙ sym (ap count (let y : k ≡ b = omega (arith, l, m) in y) ∙ (e ∙ z)))
+      (cases_lt k b);
+}
 
-    pub push_new : (count : ℕ → ℕ) (b n : ℕ) (xs : List (ℕ × P)) (x : P) → count b ≡ n → lists x ≡ [] → room x ≡ n → AreNewPorts lists room count b xs → AreNewPorts lists room count (b + 1) (xs ++ (b, x) ∷ [])
-    push_new count b n xs x e li ro h = record {
-      ascend = ascend_push xs b x h.ascend h.below;
-      below = all_push (λ (z : ℕ × P). z.0 < b + 1) xs (b, x) (all_wider b (b + 1) (omega arith) xs h.below) (omega arith);
-      empty = all_push (λ (z : ℕ × P). lists z.1 ≡ []) xs (b, x) h.empty li;
-      rooms = λ k l.
-          ⊎_elim
-          (λ (m : k < b). push_there room 0 xs b k x (λ z. omega (arith, z, m)) ∙ h.rooms k m)
-          (λ (m : b ≤ k). let y : k ≡ b = omega (arith, l, m) in ap (by_peer room 0 (xs ++ (b, x) ∷ [])) y ∙ (push_here room 0 xs b x h.below ∙ (ro ∙ (sym e ∙ sym (ap count y)))))
-          (cases_lt k b);
-    }
+pub push_new : (count : ℕ → ℕ) (b n : ℕ) (xs : List (ℕ × PortView)) (x : PortView) → count b ≡ n → x.messages ≡ [] → x.room ≡ n → AreNewPorts count b xs → AreNewPorts count (b + 1) (xs ++ (b, x) ∷ [])
+push_new count b n xs x e li ro h = record {
+  ascend = ascend_push xs b x h.ascend h.below;
+  below = all_push (λ (z : ℕ × PortView). z.0 < b + 1) xs (b, x) (all_wider b (b + 1) (omega arith) xs h.below) (omega arith);
+  empty = all_push (λ (z : ℕ × PortView). z.1.messages ≡ []) xs (b, x) h.empty li;
+  rooms = λ k l.
+      ⊎_elim
+      (λ (m : k < b). push_there (λ p. p.room) 0 xs b k x (λ z. omega (arith, z, m)) ∙ h.rooms k m)
+      (λ (m : b ≤ k). let y : k ≡ b = omega (arith, l, m) in ap (room_to (xs ++ (b, x) ∷ [])) y ∙ (push_here (λ p. p.room) 0 xs b x h.below ∙ (ro ∙ (sym e ∙ sym (ap count y)))))
+      (cases_lt k b);
+}
 
-    -- the room of the port to each peer
-    pub all_rooms : (count : ℕ → ℕ) (b : ℕ) (xs : List (ℕ × P)) → AreNewPorts lists room count b xs → ((k : ℕ) → b ≤ k → count k ≡ 0) → (k : ℕ) → by_peer room 0 xs k ≡ count k
-    all_rooms count b xs h none k = ⊎_elim (λ (m : k < b). h.rooms k m) (λ (m : b ≤ k). past room 0 xs b k m h.below ∙ sym (none k m)) (cases_lt k b)
+-- the room of the port to each peer
+pub all_rooms : (count : ℕ → ℕ) (b : ℕ) (xs : List (ℕ × PortView)) → AreNewPorts count b xs → ((k : ℕ) → b ≤ k → count k ≡ 0) → (k : ℕ) → room_to xs k ≡ count k
+all_rooms count b xs h none k = ⊎_elim (λ (m : k < b). h.rooms k m) (λ (m : b ≤ k). past (λ p. p.room) 0 xs b k m h.below ∙ sym (none k m)) (cases_lt k b)
 
 -- the two new ports are paired
-pub pushed_pair : {I O M N : Type 0} (in_lists : I → List M) (in_room : I → ℕ) (in_pairing : I → Pairing) (out_lists : O → List N) (out_room : O → ℕ) (out_pairing : O → Pairing) (a b : ℕ → ℕ) (cap q r : ℕ) (outs : List (ℕ × O)) (ins : List (ℕ × I)) (out : O) (inbox : I) → AreNewPorts out_lists out_room a r outs → AreNewPorts in_lists in_room b q ins → out_pairing out ≡ in_pairing inbox → (out_pairing out).from ≡ q → (out_pairing out).to ≡ r → (out_pairing out).cap ≡ cap → IsOpenedPair in_pairing out_pairing cap q r (outs ++ (r, out) ∷ []) (ins ++ (q, inbox) ∷ [])
-pushed_pair in_lists in_room in_pairing out_lists out_room out_pairing a b cap q r outs ins out inbox ho hi e f t c = record {
-  pairing = out_pairing out;
-  out = push_here (λ p. Some (out_pairing p)) None outs r out ho.below;
-  inbox = push_here (λ p. Some (in_pairing p)) None ins q inbox hi.below ∙ ap (λ p. Some p) (sym e);
-  from_is = f;
-  to_is = t;
-  cap_is = c;
+pub pushed_pair : (a b : ℕ → ℕ) (cap q r n : ℕ) (outs ins : List (ℕ × PortView)) (out inbox : PortView) → AreNewPorts a r outs → AreNewPorts b q ins → IsNewPair q r cap n out inbox → IsOpenedPair cap q r (outs ++ (r, out) ∷ []) (ins ++ (q, inbox) ∷ [])
+pushed_pair a b cap q r n outs ins out inbox ho hi new = record {
+  pairing = out.pairing;
+  out = push_here (λ p. Some p.pairing) None outs r out ho.below;
+  inbox = push_here (λ p. Some p.pairing) None ins q inbox hi.below ∙ ap (λ p. Some p) (sym new.paired);
+  from_is = new.out_is.from;
+  to_is = new.out_is.to;
+  cap_is = new.out_is.cap;
 }

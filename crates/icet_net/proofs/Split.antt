@@ -1,10 +1,7 @@
 -- Two machines of one slice, which is parted between them.
-use Rattle.std.proofs.Common.{◌≡◌, ◌≢◌, ℕ, zero, suc, ◌+◌, ◌-◌, ◌<◌, ◌≤◌, List, [], ◌∷◌, ◌++◌, length, get_or, set, refl, sym, ap, ◌∙◌, arith, ⊎_elim, length-append}
+use Rattle.std.proofs.Common.{◌≡◌, ◌≢◌, ℕ, ◌+◌, ◌-◌, ◌<◌, ◌≤◌, List, ◌++◌, length, get_or, set, sym, ap, ◌∙◌, arith, ⊎_elim, length-append}
 use Rattle.std.proofs.lemmas.List.{get_or-set_same, get_or-set_other, length-set, get_or_append_left, get_or-append-add}
 use Rattle.std.proofs.lemmas.Bool.{cases_lt}
-use Rattle.icet_model.specs.Pixel.{Pixel}
-use Rattle.icet_model.specs.Run.{MessageView}
-use Rattle.icet_model.specs.Wires.{Pairing}
 use Rattle.icet_rank.specs.Moves.{Met, ArePaired}
 use Rattle.icet_rank.specs.Machine.{MachineView}
 use Rattle.icet_net.specs.Ranks.{machine_at, no_machine}
@@ -44,8 +41,8 @@ module _ {X : Type 0} (d : X) (front back : List X) (i : ℕ) (x y : X) (l : i <
 pub turned : {X : Type 0} (d : X) (i j : ℕ) (x y : X) (old new : List X) → TwoWritten d i j x y old new → TwoWritten d j i y x old new
 turned d i j x y old new t = record { count = t.count; first = t.second; second = t.first; others = λ k a b. t.others k b a }
 
-module _ {I O : Type 0} (taken : I → List (MessageView (List Pixel))) (in_room : I → ℕ) (in_pairing : I → Pairing) (sent : O → List (MessageView (List Pixel))) (out_room : O → ℕ) (out_pairing : O → Pairing) (q r cap : ℕ) (x y : MachineView I O) (old new : List (MachineView I O)) where
-  pub met_pair : (a b : MachineView I O) → machine_at old q ≡ a → machine_at old r ≡ b → TwoWritten no_machine q r x y old new → x ≡ record a { outboxes = x.outboxes } → y ≡ record b { inboxes = y.inboxes } → Met sent out_room out_pairing r a.outboxes x.outboxes → Met taken in_room in_pairing q b.inboxes y.inboxes → ArePaired out_pairing in_pairing q r cap x.outboxes y.inboxes → MetPair taken in_room in_pairing sent out_room out_pairing q r cap old new
+module _ (q r cap : ℕ) (x y : MachineView) (old new : List MachineView) where
+  pub met_pair : (a b : MachineView) → machine_at old q ≡ a → machine_at old r ≡ b → TwoWritten no_machine q r x y old new → x ≡ record a { outboxes = x.outboxes } → y ≡ record b { inboxes = y.inboxes } → Met r a.outboxes x.outboxes → Met q b.inboxes y.inboxes → ArePaired q r cap x.outboxes y.inboxes → MetPair q r cap old new
   met_pair a b ea eb t sa sb out inbox paired = record {
     count = t.count;
     others = t.others;
@@ -56,32 +53,32 @@ module _ {I O : Type 0} (taken : I → List (MessageView (List Pixel))) (in_room
     paired = rw (t.first, t.second) paired;
   }
 
-  module _ (front back : List (MachineView I O)) (is : old ≡ front ++ back) (a b : MachineView I O) where
-    in_front : (i : ℕ) (m d : MachineView I O) → i < length front → m ≡ get_or front i d → machine_at old i ≡ m
+  module _ (front back : List MachineView) (is : old ≡ front ++ back) (a b : MachineView) where
+    in_front : (i : ℕ) (m d : MachineView) → i < length front → m ≡ get_or front i d → machine_at old i ≡ m
     in_front i m d l e = ap (λ xs. get_or xs i no_machine) is ∙ (get_or_append_left front back no_machine i l ∙ (any_default front i no_machine d l ∙ sym e))
 
-    in_back : (i : ℕ) (m d : MachineView I O) → length front ≡ i → 0 < length back → m ≡ get_or back 0 d → machine_at old i ≡ m
+    in_back : (i : ℕ) (m d : MachineView) → length front ≡ i → 0 < length back → m ≡ get_or back 0 d → machine_at old i ≡ m
     in_back i m d l h e = ap (λ xs. get_or xs i no_machine) is ∙ (ap (λ n. get_or (front ++ back) n no_machine) (let f : i ≡ length front + 0 = omega (arith, l) in f) ∙ (get_or-append-add front back 0 no_machine ∙ any_default back 0 no_machine d h) ∙ sym e)
 
     rest_there : (i : ℕ) → length front ≡ i → i < length old → 0 < length back
     rest_there i l h = let e = ap length is in let f = length-append front back in omega (arith, l, h, e, f)
 
-    pub met_then : (s : ℕ) (d e : MachineView I O) → s ≡ q → length front ≡ r → q < r → r < length old → a ≡ get_or front s d → b ≡ get_or back 0 e → (machine_at old q).number ≡ q → (machine_at old r).number ≡ r → x ≡ record a { outboxes = x.outboxes } → y ≡ record b { inboxes = y.inboxes } → Met sent out_room out_pairing b.number a.outboxes x.outboxes → Met taken in_room in_pairing a.number b.inboxes y.inboxes → ArePaired out_pairing in_pairing a.number b.number cap x.outboxes y.inboxes → new ≡ set front s x ++ set back 0 y → MetPair taken in_room in_pairing sent out_room out_pairing q r cap old new
+    pub met_then : (s : ℕ) (d e : MachineView) → s ≡ q → length front ≡ r → q < r → r < length old → a ≡ get_or front s d → b ≡ get_or back 0 e → (machine_at old q).number ≡ q → (machine_at old r).number ≡ r → x ≡ record a { outboxes = x.outboxes } → y ≡ record b { inboxes = y.inboxes } → Met b.number a.outboxes x.outboxes → Met a.number b.inboxes y.inboxes → ArePaired a.number b.number cap x.outboxes y.inboxes → new ≡ set front s x ++ set back 0 y → MetPair q r cap old new
     met_then s d e es lf l lr ea eb nq nr sa sb out inbox paired isnew =
         let hb = rest_there r lf lr in
         let ma : machine_at old q ≡ a = in_front q a d (omega (arith, l, lf)) (rw (← es) ea) in
         let mb : machine_at old r ≡ b = in_back r b e lf hb eb in
-        let na : a.number ≡ q = ap (λ (m : MachineView I O). m.number) (sym ma) ∙ nq in
-        let nb : b.number ≡ r = ap (λ (m : MachineView I O). m.number) (sym mb) ∙ nr in
+        let na : a.number ≡ q = ap (λ (m : MachineView). m.number) (sym ma) ∙ nq in
+        let nb : b.number ≡ r = ap (λ (m : MachineView). m.number) (sym mb) ∙ nr in
         let t : TwoWritten no_machine q r x y old new = rw (isnew, is, es, ← lf) (two_set no_machine front back q x y (omega (arith, l, lf)) hb) in
         met_pair a b ma mb t sa sb (rw (← nb) out) (rw (← na) inbox) (rw (← na, ← nb) paired)
 
-    pub met_else : (s : ℕ) (d e : MachineView I O) → s ≡ r → length front ≡ q → r < q → q < length old → b ≡ get_or front s d → a ≡ get_or back 0 e → (machine_at old q).number ≡ q → (machine_at old r).number ≡ r → x ≡ record a { outboxes = x.outboxes } → y ≡ record b { inboxes = y.inboxes } → Met sent out_room out_pairing b.number a.outboxes x.outboxes → Met taken in_room in_pairing a.number b.inboxes y.inboxes → ArePaired out_pairing in_pairing a.number b.number cap x.outboxes y.inboxes → new ≡ set front s y ++ set back 0 x → MetPair taken in_room in_pairing sent out_room out_pairing q r cap old new
+    pub met_else : (s : ℕ) (d e : MachineView) → s ≡ r → length front ≡ q → r < q → q < length old → b ≡ get_or front s d → a ≡ get_or back 0 e → (machine_at old q).number ≡ q → (machine_at old r).number ≡ r → x ≡ record a { outboxes = x.outboxes } → y ≡ record b { inboxes = y.inboxes } → Met b.number a.outboxes x.outboxes → Met a.number b.inboxes y.inboxes → ArePaired a.number b.number cap x.outboxes y.inboxes → new ≡ set front s y ++ set back 0 x → MetPair q r cap old new
     met_else s d e es lf l lq eb ea nq nr sa sb out inbox paired isnew =
         let ha = rest_there q lf lq in
         let mb : machine_at old r ≡ b = in_front r b d (omega (arith, l, lf)) (rw (← es) eb) in
         let ma : machine_at old q ≡ a = in_back q a e lf ha ea in
-        let na : a.number ≡ q = ap (λ (m : MachineView I O). m.number) (sym ma) ∙ nq in
-        let nb : b.number ≡ r = ap (λ (m : MachineView I O). m.number) (sym mb) ∙ nr in
+        let na : a.number ≡ q = ap (λ (m : MachineView). m.number) (sym ma) ∙ nq in
+        let nb : b.number ≡ r = ap (λ (m : MachineView). m.number) (sym mb) ∙ nr in
         let t : TwoWritten no_machine r q y x old new = rw (isnew, is, es, ← lf) (two_set no_machine front back r y x (omega (arith, l, lf)) ha) in
         met_pair a b ma mb (turned no_machine r q y x old new t) sa sb (rw (← nb) out) (rw (← na) inbox) (rw (← na, ← nb) paired)

@@ -1,7 +1,7 @@
 -- Machines at the start of their programs: what `RankMachine::new` asks, and that the machines are the hull's.
 use Rattle.std.proofs.Common.{◌≡◌, ℕ, zero, suc, ◌+◌, ◌<◌, ◌≤◌, List, [], ◌∷◌, length, get_or, drop, take, ◌++◌, refl, sym, ap, ◌∙◌, subst, arith, Some, ⊎_elim, inl, inr, add-one}
 use Rattle.std.specs.Prelude.{filter, ◌⊎◌, ◌≢◌}
-use Rattle.std.specs.List.{AllByRecursion, slice_get}
+use Rattle.std.specs.List.{slice_get}
 use Rattle.std.proofs.lemmas.Bool.{cases_lt}
 use Rattle.std.proofs.lemmas.Option.{get_or_from_slice_get}
 use Rattle.std.proofs.lemmas.List.{length-map, get_or-append-add, get_or_append_left}
@@ -9,13 +9,12 @@ use Rattle.icet_model.specs.declared.names.Mode.{Mode}
 use Rattle.icet_model.specs.declared.exchange.Op.{Op}
 use Rattle.icet_model.specs.Pixel.{Pixel}
 use Rattle.icet_model.specs.Exchange.{heading, sends_to, takes_from, exchanges, of_rank}
-use Rattle.icet_model.specs.Run.{Piece, MessageView, fresh}
+use Rattle.icet_model.specs.Run.{Piece, fresh}
 use Rattle.icet_model.specs.Flow.{program}
 use Rattle.icet_model.specs.Plan.{PlanView, IsPlan, plan_exchanges, bracket_carrier, bracket_flow}
-use Rattle.icet_model.specs.Wires.{Pairing}
-use Rattle.icet_rank.specs.Moves.{pairing_to}
+use Rattle.icet_model.specs.Wires.{PortView}
 use Rattle.icet_rank.specs.Fits.{AllFitAnyDisplay}
-use Rattle.icet_rank.specs.Machine.{MachineView, carrier_of, IsReadyToRun}
+use Rattle.icet_rank.specs.Machine.{MachineView, carrier_of, IsReadyToRun, IsAtStart}
 use Rattle.icet_rank.proofs.AnyDisplay.{all_fit_any_display}
 use Rattle.icet_plan.proofs.Shapes.{fits_anyhow}
 use Rattle.icet_plan.proofs.PlanFlows.{of_program}
@@ -26,6 +25,7 @@ use Rattle.icet_net.proofs.NewPorts.{all_rooms}
 use Rattle.icet_net.proofs.PairPlaces.{used_is}
 use Rattle.icet_model.proofs.Numbers.{same_or_not}
 use Rattle.icet_model.proofs.Lists.{take_next_suc}
+use Rattle.icet_model.specs.Ports.{pairing_to}
 
 module _ (plan : PlanView) (is : IsPlan plan) where
   takes_on : (q r : ℕ) → length (filter (takes_from q) (exchanges (program plan.programs r))) ≡ messages_on plan q r
@@ -43,16 +43,16 @@ module _ (plan : PlanView) (is : IsPlan plan) where
   none_to : (q k : ℕ) → length plan.programs ≤ k → messages_on plan q k ≡ 0
   none_to q k l = ⊎_elim (λ (h : 0 < messages_on plan q k). absurd (let u = (used_is plan is q k h).to in omega (arith, u, l))) (λ (h : messages_on plan q k ≤ 0). omega (arith, h)) (cases_lt 0 (messages_on plan q k))
 
-  module _ {I O : Type 0} (taken : I → List (MessageView (List Pixel))) (in_room : I → ℕ) (sent : O → List (MessageView (List Pixel))) (out_room : O → ℕ) where
+  module _ where
     -- a rank's program, images and new ports are what a machine may be made of
-    pub can_start : (r : ℕ) (mode : Mode) (ops : List Op) (images : List (Piece (List Pixel))) (ins : List (ℕ × I)) (outs : List (ℕ × O)) → ops ≡ program plan.programs r → AreWholeImages plan.tiles.sizes images → AreNewPorts taken in_room (λ q. messages_on plan q r) (length plan.programs) ins → AreNewPorts sent out_room (λ k. messages_on plan r k) (length plan.programs) outs → IsReadyToRun taken in_room sent out_room r mode ops images ins outs
+    pub can_start : (r : ℕ) (mode : Mode) (ops : List Op) (images : List (Piece (List Pixel))) (ins : List (ℕ × PortView)) (outs : List (ℕ × PortView)) → ops ≡ program plan.programs r → AreWholeImages plan.tiles.sizes images → AreNewPorts (λ q. messages_on plan q r) (length plan.programs) ins → AreNewPorts (λ k. messages_on plan r k) (length plan.programs) outs → IsReadyToRun r mode ops images ins outs
     can_start r mode ops images ins outs e w hi ho = rw e (record {
       whole = w.whole;
       fits = λ t. subst (λ sizes. AllFitAnyDisplay sizes (carrier_of mode images) r t (program plan.programs r) fresh) (sym w.sizes_are) (all_fit_any_display plan.tiles r (carrier_of mode images) t (program plan.programs r) fresh (fits_anyhow plan.tiles (bracket_carrier plan.tiles.sizes r) (carrier_of mode images) (ap (λ sizes t. get_or sizes t 0) (sym w.sizes_are)) r (λ p. bracket_flow plan p r) t (program plan.programs r) fresh fresh refl (is.sound.fit r)));
       in_ascend = hi.ascend;
       out_ascend = ho.ascend;
-      in_rooms = λ q. all_rooms taken in_room (λ k. messages_on plan k r) (length plan.programs) ins hi (none_from r) q ∙ sym (takes_on q r);
-      out_rooms = λ k. all_rooms sent out_room (λ k. messages_on plan r k) (length plan.programs) outs ho (none_to r) k ∙ sym (sends_on r k);
+      in_rooms = λ q. all_rooms (λ k. messages_on plan k r) (length plan.programs) ins hi (none_from r) q ∙ sym (takes_on q r);
+      out_rooms = λ k. all_rooms (λ k. messages_on plan r k) (length plan.programs) outs ho (none_to r) k ∙ sym (sends_on r k);
       none_taken = hi.empty;
       none_sent = ho.empty;
     })
@@ -62,8 +62,8 @@ pub program_at : (programs : List (List Op)) (r : ℕ) (ops : List Op) → slice
 program_at programs r ops h = sym (get_or_from_slice_get programs r ops [] h)
 
 -- started machines are the ranks of the hull
-pub started_hulls : {I O : Type 0} (in_pairing : I → Pairing) (out_pairing : O → Pairing) (hull : HullView) (mode : Mode) (images : List (List (Piece (List Pixel)))) (ins : List (List (ℕ × I))) (outs : List (List (ℕ × O))) (ms : List (MachineView I O)) → IsPlan hull.plan → length ms ≡ length hull.plan.programs → ((r : ℕ) → r < length hull.plan.programs → AreWholeImages hull.plan.tiles.sizes (get_or images r [])) → ((r : ℕ) → r < length hull.plan.programs → IsStarted hull.plan mode (get_or images r []) (ports_of ins r) (ports_of outs r) r (machine_at ms r)) → ((q r : ℕ) → 0 < messages_on hull.plan q r → IsOpenedPair in_pairing out_pairing hull.cap q r (ports_of outs q) (ports_of ins r)) → AreHulls in_pairing out_pairing hull ms
-started_hulls in_pairing out_pairing hull mode images ins outs ms is count whole started paired = record {
+pub started_hulls : (hull : HullView) (mode : Mode) (images : List (List (Piece (List Pixel)))) (ins : List (List (ℕ × PortView))) (outs : List (List (ℕ × PortView))) (ms : List MachineView) → IsPlan hull.plan → length ms ≡ length hull.plan.programs → ((r : ℕ) → r < length hull.plan.programs → AreWholeImages hull.plan.tiles.sizes (get_or images r [])) → ((r : ℕ) → r < length hull.plan.programs → IsStarted hull.plan mode (get_or images r []) (ports_of ins r) (ports_of outs r) r (machine_at ms r)) → ((q r : ℕ) → 0 < messages_on hull.plan q r → IsOpenedPair hull.cap q r (ports_of outs q) (ports_of ins r)) → AreHulls hull ms
+started_hulls hull mode images ins outs ms is count whole started paired = record {
   count = count;
   each = λ r l.
       let within : r < length hull.plan.programs = omega (arith, l, count) in
@@ -75,31 +75,31 @@ started_hulls in_pairing out_pairing hull mode images ins outs ms is count whole
       let p = paired q r used in
       record {
         pairing = p.pairing;
-        out = ap (λ ports. pairing_to out_pairing ports r) (started q u.from).outboxes ∙ p.out;
-        inbox = ap (λ ports. pairing_to in_pairing ports q) (started r u.to).inboxes ∙ p.inbox;
+        out = ap (λ ports. pairing_to ports r) (started q u.from).outboxes ∙ p.out;
+        inbox = ap (λ ports. pairing_to ports q) (started r u.to).inboxes ∙ p.inbox;
         from_is = p.from_is;
         to_is = p.to_is;
         cap_is = p.cap_is;
       };
 }
 
-pub opened_with : {I O : Type 0} (plan : PlanView) (mode : Mode) (images : List (List (Piece (List Pixel)))) (ins : List (List (ℕ × I))) (outs : List (List (ℕ × O))) (ms : List (MachineView I O)) → length ms ≡ length plan.programs → length images ≡ length plan.programs → ((r : ℕ) → r < length plan.programs → IsStarted plan mode (get_or images r []) (ports_of ins r) (ports_of outs r) r (machine_at ms r)) → AreOpenedWith mode images ms
+pub opened_with : (plan : PlanView) (mode : Mode) (images : List (List (Piece (List Pixel)))) (ins : List (List (ℕ × PortView))) (outs : List (List (ℕ × PortView))) (ms : List MachineView) → length ms ≡ length plan.programs → length images ≡ length plan.programs → ((r : ℕ) → r < length plan.programs → IsStarted plan mode (get_or images r []) (ports_of ins r) (ports_of outs r) r (machine_at ms r)) → AreOpenedWith mode images ms
 opened_with plan mode images ins outs ms count many started = record {
   count = count ∙ sym many;
   each = λ r l. let s = started r (omega (arith, l, count)) in record { mode_is = s.mode_is; images_are = s.images_are; place = s.place; counter = s.counter };
 }
 
 -- a new machine is a started one
-pub is_started : {I O : Type 0} (plan : PlanView) (r : ℕ) (mode : Mode) (ops : List Op) (images : List (Piece (List Pixel))) (ins : List (ℕ × I)) (outs : List (ℕ × O)) (new_ins : List (ℕ × I)) (new_outs : List (ℕ × O)) → ops ≡ program plan.programs r → new_ins ≡ ins → new_outs ≡ outs → (m : MachineView I O) → m ≡ record { number = r; mode = mode; ops = ops; place = 0; counter = 0; images = images; slots = m.slots; kept = []; inboxes = new_ins; outboxes = new_outs } → IsStarted plan mode images ins outs r m
-is_started {I} {O} plan r mode ops images ins outs new_ins new_outs e ei eo m h = record {
-  number = ap (λ (z : MachineView I O). z.number) h;
-  mode_is = ap (λ (z : MachineView I O). z.mode) h;
-  ops = ap (λ (z : MachineView I O). z.ops) h ∙ e;
-  place = ap (λ (z : MachineView I O). z.place) h;
-  counter = ap (λ (z : MachineView I O). z.counter) h;
-  images_are = ap (λ (z : MachineView I O). z.images) h;
-  inboxes = ap (λ (z : MachineView I O). z.inboxes) h ∙ ei;
-  outboxes = ap (λ (z : MachineView I O). z.outboxes) h ∙ eo;
+pub is_started : (plan : PlanView) (r : ℕ) (mode : Mode) (ops : List Op) (images : List (Piece (List Pixel))) (ins outs new_ins new_outs : List (ℕ × PortView)) → ops ≡ program plan.programs r → new_ins ≡ ins → new_outs ≡ outs → (m : MachineView) → IsAtStart r mode ops images new_ins new_outs m → IsStarted plan mode images ins outs r m
+is_started plan r mode ops images ins outs new_ins new_outs e ei eo m h = record {
+  number = h.number;
+  mode_is = h.mode;
+  ops = h.ops ∙ e;
+  place = h.place;
+  counter = h.counter;
+  images_are = h.images;
+  inboxes = h.inboxes ∙ ei;
+  outboxes = h.outboxes ∙ eo;
 }
 
 -- what a list begins with behind its first n items
@@ -119,8 +119,8 @@ drop_head {X} xs rest n x d h = (go xs n h, ap (λ k. drop k xs) (add-one n) ∙
     tail (y ∷ ys) (suc k) e = tail ys k e
 
 -- one machine more is started
-pub started_more : {I O : Type 0} (plan : PlanView) (mode : Mode) (images : List (List (Piece (List Pixel)))) (ins : List (List (ℕ × I))) (outs : List (List (ℕ × O))) (ms after : List (MachineView I O)) (n : ℕ) (x : List (Piece (List Pixel))) (y : List (ℕ × I)) (z : List (ℕ × O)) (m : MachineView I O) → length ms ≡ n → after ≡ ms ++ m ∷ [] → get_or images n [] ≡ x → get_or ins n [] ≡ y → get_or outs n [] ≡ z → IsStarted plan mode x y z n m → ((r : ℕ) → r < n → IsStarted plan mode (get_or images r []) (ports_of ins r) (ports_of outs r) r (machine_at ms r)) → (r : ℕ) → r < n + 1 → IsStarted plan mode (get_or images r []) (ports_of ins r) (ports_of outs r) r (machine_at after r)
-started_more {I} {O} plan mode images ins outs ms after n x y z m c e ex ey ez s before r l = go (same_or_not r n)
+pub started_more : (plan : PlanView) (mode : Mode) (images : List (List (Piece (List Pixel)))) (ins : List (List (ℕ × PortView))) (outs : List (List (ℕ × PortView))) (ms after : List MachineView) (n : ℕ) (x : List (Piece (List Pixel))) (y : List (ℕ × PortView)) (z : List (ℕ × PortView)) (m : MachineView) → length ms ≡ n → after ≡ ms ++ m ∷ [] → get_or images n [] ≡ x → get_or ins n [] ≡ y → get_or outs n [] ≡ z → IsStarted plan mode x y z n m → ((r : ℕ) → r < n → IsStarted plan mode (get_or images r []) (ports_of ins r) (ports_of outs r) r (machine_at ms r)) → (r : ℕ) → r < n + 1 → IsStarted plan mode (get_or images r []) (ports_of ins r) (ports_of outs r) r (machine_at after r)
+started_more plan mode images ins outs ms after n x y z m c e ex ey ez s before r l = go (same_or_not r n)
   where
     here : machine_at after n ≡ m
     here = ap (λ xs. machine_at xs n) e ∙ (ap (machine_at (ms ++ m ∷ [])) (let f : n ≡ length ms + 0 = omega (arith, c) in f) ∙ get_or-append-add ms (m ∷ []) 0 no_machine)

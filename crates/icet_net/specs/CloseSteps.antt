@@ -1,15 +1,16 @@
 -- What the steps of a close need and leave: ports that are taken out and closed, and pieces that are placed.
-use Rattle.std.specs.Prelude.{◌≡◌, ◌≢◌, ◌⊎◌, ℕ, false, take, ◌*◌, ◌<◌, ◌≤◌, List, [], map, length, get_or, filter, Some, slice_get}
+use Rattle.std.specs.Prelude.{reverse, ◌≡◌, ◌≢◌, ◌⊎◌, ℕ, false, take, ◌*◌, ◌<◌, ◌≤◌, List, [], map, length, get_or, filter, Some, slice_get}
 use Rattle.std.specs.List.{AllByRecursion, range_with_len, list_any}
 use Rattle.icet_model.specs.Pixel.{Pixel, DenseView}
-use Rattle.icet_model.specs.Run.{Piece, MessageView}
+use Rattle.icet_model.specs.Run.{Piece}
 use Rattle.icet_model.specs.Fit.{Tiles}
 use Rattle.icet_model.specs.Plan.{has_place}
-use Rattle.icet_model.specs.Ports.{by_peer}
-use Rattle.icet_model.specs.Traffic.{PairTraffic}
-use Rattle.icet_model.specs.Wires.{Pairing}
+use Rattle.icet_model.specs.Ports.{messages_to}
+use Rattle.icet_model.specs.Traffic.{PairTraffic, IsTakenPair}
+use Rattle.icet_model.specs.Wires.{PortView}
 use Rattle.icet_collect.specs.Collect.{CanvasView, Shows, HasWanted, blank_canvas}
 use Rattle.icet_rank.specs.Moves.{port_to}
+use Rattle.icet_rank.specs.Machine.{PartsView}
 use Rattle.icet_net.specs.Opening.{ports_of}
 
 -- no pair stands twice in the list
@@ -18,33 +19,30 @@ pub record AreDistinct (pairs : List (ℕ × ℕ)) : Type 0 where
 
 -- rank q has the outbox to rank r, which has the inbox from rank q; the two are paired, were opened for
 -- these ranks, and as many messages were taken as sent
-pub record IsClosable {I O : Type 0} (taken : I → List (MessageView (List Pixel))) (in_pairing : I → Pairing) (sent : O → List (MessageView (List Pixel))) (out_pairing : O → Pairing) (outs : List (List (ℕ × O))) (ins : List (List (ℕ × I))) (q r : ℕ) : Type 0 where
+pub record IsClosable (outs : List (List (ℕ × PortView))) (ins : List (List (ℕ × PortView))) (q r : ℕ) : Type 0 where
   pub from_within : q < length outs
   pub to_within : r < length ins
-  pub out : O
-  pub inbox : I
+  pub out : PortView
+  pub inbox : PortView
   pub out_is : port_to (ports_of outs q) r ≡ Some out
   pub inbox_is : port_to (ports_of ins r) q ≡ Some inbox
-  pub paired : out_pairing out ≡ in_pairing inbox
-  pub from_is : (out_pairing out).from ≡ q
-  pub to_is : (out_pairing out).to ≡ r
-  pub all_taken : length (taken inbox) ≡ length (sent out)
+  pub taken_pair : IsTakenPair q r out inbox
 
 -- the port of rank q to rank r was taken out, and all others stand
-pub record LosesPort {P : Type 0} (q r : ℕ) (old new : List (List (ℕ × P))) : Type 0 where
+pub record LosesPort (q r : ℕ) (old new : List (List (ℕ × PortView))) : Type 0 where
   pub count : length new ≡ length old
   pub others : (a b : ℕ) → (a ≢ q) ⊎ (b ≢ r) → port_to (ports_of new a) b ≡ port_to (ports_of old a) b
 
 -- what the log gets for a pair
-abbrev pub entry_of : {O : Type 0} → (O → List (MessageView (List Pixel))) → List (List (ℕ × O)) → ℕ × ℕ → PairTraffic (List Pixel)
-entry_of sent outs p = record { from = p.0; to = p.1; messages = by_peer sent [] (ports_of outs p.0) p.1 }
+abbrev pub entry_of : List (List (ℕ × PortView)) → ℕ × ℕ → PairTraffic (List Pixel)
+entry_of outs p = record { from = p.0; to = p.1; messages = messages_to (ports_of outs p.0) p.1 }
 
 -- what was taken on the pair is what was sent
-abbrev pub IsTaken : {I O : Type 0} → (I → List (MessageView (List Pixel))) → (O → List (MessageView (List Pixel))) → List (List (ℕ × O)) → List (List (ℕ × I)) → ℕ × ℕ → Type 0
-IsTaken taken sent outs ins p = by_peer taken [] (ports_of ins p.1) p.0 ≡ by_peer sent [] (ports_of outs p.0) p.1
+abbrev pub IsTaken : List (List (ℕ × PortView)) → List (List (ℕ × PortView)) → ℕ × ℕ → Type 0
+IsTaken outs ins p = messages_to (ports_of ins p.1) p.0 ≡ messages_to (ports_of outs p.0) p.1
 
 -- the ports of the pairs from place n on stand as they did
-pub record KeepsPortsFrom {I O : Type 0} (n : ℕ) (pairs : List (ℕ × ℕ)) (old_outs new_outs : List (List (ℕ × O))) (old_ins new_ins : List (List (ℕ × I))) : Type 0 where
+pub record KeepsPortsFrom (n : ℕ) (pairs : List (ℕ × ℕ)) (old_outs new_outs : List (List (ℕ × PortView))) (old_ins new_ins : List (List (ℕ × PortView))) : Type 0 where
   pub out_count : length new_outs ≡ length old_outs
   pub in_count : length new_ins ≡ length old_ins
   pub outs : (j : ℕ) (p : ℕ × ℕ) → n ≤ j → slice_get pairs j ≡ Some p → port_to (ports_of new_outs p.0) p.1 ≡ port_to (ports_of old_outs p.0) p.1
@@ -84,3 +82,38 @@ AreAllWanted kepts tiles wanted = (t : ℕ) → t < length tiles.sizes → AreWa
 -- the picture of a canvas's size with these pixels
 abbrev pub shown_on : (ℕ → ℕ → Pixel) → CanvasView → DenseView
 shown_on wanted c = record { w = c.w; h = c.h; pixels = map (wanted c.tile) (range_with_len 0 (c.w * c.h)) }
+
+-- the outboxes, the inboxes and the kept pieces of what all machines hand out, where the ports stand in
+-- reverse order
+abbrev pub outs_of : List PartsView → List (List (ℕ × PortView))
+outs_of parts = map (λ p. reverse p.outboxes) parts
+
+abbrev pub ins_of : List PartsView → List (List (ℕ × PortView))
+ins_of parts = map (λ p. reverse p.inboxes) parts
+
+abbrev pub kepts_of : List PartsView → List (List (Piece (List Pixel)))
+kepts_of parts = map (λ p. p.kept) parts
+
+-- each of the pairs can be closed
+abbrev pub AreClosable : List (ℕ × ℕ) → List PartsView → Type 0
+AreClosable pairs parts = (i : ℕ) (p : ℕ × ℕ) → slice_get pairs i ≡ Some p → IsClosable (outs_of parts) (ins_of parts) p.0 p.1
+
+-- on each of the pairs what was taken is what was sent
+abbrev pub AreTaken : List (ℕ × ℕ) → List PartsView → Type 0
+AreTaken pairs parts = (i : ℕ) (p : ℕ × ℕ) → slice_get pairs i ≡ Some p → IsTaken (outs_of parts) (ins_of parts) p
+
+-- the pictures of the canvases, whatever pixels the kept pieces have
+abbrev pub ArePictures : List PartsView → Tiles → List CanvasView → List DenseView → Type 0
+ArePictures parts tiles canvases pictures = (wanted : ℕ → ℕ → Pixel) → AreAllWanted (kepts_of parts) tiles wanted → pictures ≡ map (shown_on wanted) canvases
+
+-- the picture of one canvas, whatever pixels the kept pieces have
+abbrev pub IsPicture : ℕ → List (Piece (List Pixel)) → CanvasView → DenseView → Type 0
+IsPicture tile kept c picture = (wanted : ℕ → Pixel) → AreWanted tile wanted kept → picture ≡ record { w = c.w; h = c.h; pixels = map wanted (range_with_len 0 (c.w * c.h)) }
+
+-- the port to each other peer is as before
+abbrev pub KeepOthers : {P : Type 0} → ℕ → List (ℕ × P) → List (ℕ × P) → Type 0
+KeepOthers peer old new = (k : ℕ) → k ≢ peer → port_to new k ≡ port_to old k
+
+-- the port is the one to the peer
+abbrev pub IsPortTo : {P : Type 0} → ℕ → List (ℕ × P) → ℕ × P → Type 0
+IsPortTo peer ports p = (p.0 ≡ peer) × (port_to ports peer ≡ Some p.1)

@@ -27,6 +27,10 @@ pair_if q r (suc n) = (q, r) ∷ []
 abbrev pub pairs_from : PlanView → ℕ → ℕ → List (ℕ × ℕ)
 pairs_from plan n q = flat_map (λ r. pair_if q r (messages_on plan q r)) (range_with_len 0 n)
 
+-- the pairs from rank q that carry messages
+abbrev pub pairs_on : PlanView → ℕ → List (ℕ × ℕ)
+pairs_on plan q = pairs_from plan (length plan.programs) q
+
 -- the pairs that a plan uses
 abbrev pub pairs_of : PlanView → List (ℕ × ℕ)
 pairs_of plan = flat_map (pairs_from plan (length plan.programs)) (range_with_len 0 (length plan.programs))

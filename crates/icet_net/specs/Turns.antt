@@ -1,9 +1,7 @@
 -- What a turn of one rank, and of the ranks from one place up to another, leaves.
 use Rattle.std.specs.Prelude.{◌≡◌, ◌≢◌, ℕ, ◌+◌, ◌*◌, ◌/◌, ◌<◌, ◌≤◌, List, length}
-use Rattle.icet_model.specs.Pixel.{Pixel}
-use Rattle.icet_model.specs.Run.{MessageView}
 use Rattle.icet_model.specs.Exchange.{exchanges}
-use Rattle.icet_model.specs.Wires.{Pairing}
+use Rattle.icet_model.specs.Ports.{misses_to}
 use Rattle.icet_rank.specs.Machine.{MachineView}
 use Rattle.icet_net.specs.Ranks.{machine_at, GoesOn, HadTurn}
 
@@ -12,22 +10,22 @@ abbrev pub share_start : ℕ → ℕ → ℕ → ℕ
 share_start count worker workers = count * worker / workers
 
 -- the ranks from one place up to another are related to those before, and all others are as before
-pub record Between {I O : Type 0} (P : MachineView I O → MachineView I O → Type 0) (from to : ℕ) (old new : List (MachineView I O)) : Type 0 where
+pub record Between (P : MachineView → MachineView → Type 0) (from to : ℕ) (old new : List MachineView) : Type 0 where
   pub count : length new ≡ length old
   pub turned : (r : ℕ) → from ≤ r → r < to → P (machine_at old r) (machine_at new r)
   pub before : (r : ℕ) → r < from → machine_at new r ≡ machine_at old r
   pub behind : (r : ℕ) → to ≤ r → machine_at new r ≡ machine_at old r
 
-module _ {I O : Type 0} (in_pairing : I → Pairing) (out_pairing : O → Pairing) where
-  -- so many steps of a rank moved it
-  pub record MovedBy (steps : ℕ) (old new : MachineView I O) : Type 0 where
-    pub goes_on : GoesOn in_pairing out_pairing old new
-    pub counter : new.counter ≡ old.counter + steps
-    pub none : steps ≡ 0 → new ≡ old
-    pub had_left : 0 < steps → old.counter ≢ length (exchanges old.ops)
+-- so many steps of a rank moved it
+pub record MovedBy (steps : ℕ) (old new : MachineView) : Type 0 where
+  pub goes_on : GoesOn old new
+  pub counter : new.counter ≡ old.counter + steps
+  pub none : steps ≡ 0 → new ≡ old
+  pub in_misses : misses_to new.inboxes ≡ misses_to old.inboxes
+  pub out_misses : misses_to new.outboxes ≡ misses_to old.outboxes
+  pub had_left : 0 < steps → old.counter ≢ length (exchanges old.ops)
 
-module _ {I O : Type 0} (taken : I → List (MessageView (List Pixel))) (in_room known in_misses : I → ℕ) (in_pairing : I → Pairing) (sent : O → List (MessageView (List Pixel))) (out_room free_known out_misses : O → ℕ) (out_pairing : O → Pairing) where
-  -- the rank had its turn, and goes on from where it was
-  pub record TurnsOn (burst : ℕ) (old new : MachineView I O) : Type 0 where
-    pub goes_on : GoesOn in_pairing out_pairing old new
-    pub had_turn : HadTurn taken in_room known in_misses in_pairing sent out_room free_known out_misses out_pairing burst old new
+-- the rank had its turn, and goes on from where it was
+pub record TurnsOn (burst : ℕ) (old new : MachineView) : Type 0 where
+  pub goes_on : GoesOn old new
+  pub had_turn : HadTurn burst old new

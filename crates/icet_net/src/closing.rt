@@ -2,14 +2,13 @@ ghost use Rattle.std.specs.Prelude.{◌≡◌, ◌≢◌, ◌<◌, ◌≤◌, �
 ghost use Rattle.std.specs.List.{AllByRecursion, range_with_len};
 ghost use Rattle.std.specs.Option.{ForSome};
 ghost use Rattle.icet_model.specs.Pixel.{Pixel};
-ghost use Rattle.icet_model.specs.Traffic.{traffic};
 ghost use Rattle.icet_collect.specs.Collect.{blank_canvas};
 ghost use Rattle.icet_rank.specs.Moves.{HasPeer, port_to};
 ghost use Rattle.icet_rank.specs.Machine.{IsDone};
 ghost use Rattle.icet_net.specs.Opening.{ports_of};
 ghost use Rattle.icet_net.specs.Ranks.{AreHulls, AreDone, mode_of, images_of, machine_at};
-ghost use Rattle.icet_net.specs.Closing.{IsLowestUndone, pictures_of};
-ghost use Rattle.icet_net.specs.CloseSteps.{AreDistinct, IsClosable, LosesPort, entry_of, IsTaken, AreOnce, AreWanted, IsShowable, AreAllWanted, shown_on};
+ghost use Rattle.icet_net.specs.Closing.{IsLowestUndone, pictures_of, traffic_of};
+ghost use Rattle.icet_net.specs.CloseSteps.{AreDistinct, IsClosable, AreClosable, LosesPort, entry_of, IsTaken, AreTaken, AreOnce, IsShowable, IsPicture, ArePictures, KeepOthers, IsPortTo, outs_of, ins_of, kepts_of};
 
 use crate::hull::Hull;
 use crate::pictures::Pictures;
@@ -42,11 +41,11 @@ pub fn close_net<W: Wires>(
     ranks: Vec<RankMachine<W::In, W::Out>>,
     wires: &mut W,
 ) -> Result<Pictures, Unfinished<W>>
-    requires hulls { AreHulls W.In.pairing W.Out.pairing hull ranks.items }
+    requires hulls { AreHulls hull ranks.items }
     requires owed { length hull.pairs ≤ W.owed wires.old }
     ensures done { OnOk result (AreDone ranks.items) }
     ensures pictures { IfOk result (λ p. p ≡ pictures_of hull (mode_of ranks.items) (images_of ranks.items)) }
-    ensures log { OnOk result (W.log wires.new ≡ W.log wires.old ++ traffic (mode_of ranks.items) hull.plan (images_of ranks.items)) }
+    ensures log { OnOk result (W.log wires.new ≡ W.log wires.old ++ traffic_of hull ranks.items) }
     ensures owed { OnOk result (W.owed wires.old ≡ W.owed wires.new + length hull.pairs) }
     ensures rank { IfErr result (λ u. IsLowestUndone u.rank ranks.items) }
     ensures hull { IfErr result (λ u. u.hull ≡ hull) }
@@ -81,11 +80,11 @@ fn close_done<W: Wires>(
     ranks: Vec<RankMachine<W::In, W::Out>>,
     wires: &mut W,
 ) -> Pictures
-    requires hulls { AreHulls W.In.pairing W.Out.pairing hull ranks.items }
+    requires hulls { AreHulls hull ranks.items }
     requires owed { length hull.pairs ≤ W.owed wires.old }
     requires done { AreDone ranks.items }
     ensures pictures { result ≡ pictures_of hull (mode_of ranks.items) (images_of ranks.items) }
-    ensures log { W.log wires.new ≡ W.log wires.old ++ traffic (mode_of ranks.items) hull.plan (images_of ranks.items) }
+    ensures log { W.log wires.new ≡ W.log wires.old ++ traffic_of hull ranks.items }
     ensures owed { W.owed wires.old ≡ W.owed wires.new + length hull.pairs }
 {
     look_at(&ranks);
@@ -112,9 +111,9 @@ fn take_apart<I: Inbox, O: Outbox>(
 ) -> Vec<Parts<I, O>>
     requires done { AllByRecursion IsDone ranks.items }
     requires memory { length ranks.items ≤ vec_capacity parts }
-    ensures kept { map (λ p. p.kept.items) result.items ≡ map (λ m. m.kept) ranks.items }
-    ensures inboxes { map (λ p. reverse p.inboxes.items) result.items ≡ map (λ m. m.inboxes) ranks.items }
-    ensures outboxes { map (λ p. reverse p.outboxes.items) result.items ≡ map (λ m. m.outboxes) ranks.items }
+    ensures kept { kepts_of result.items ≡ map (λ m. m.kept) ranks.items }
+    ensures inboxes { ins_of result.items ≡ map (λ m. m.inboxes) ranks.items }
+    ensures outboxes { outs_of result.items ≡ map (λ m. m.outboxes) ranks.items }
 {
     let mut parts = parts;
     parts.clear();
@@ -126,9 +125,9 @@ fn take_apart<I: Inbox, O: Outbox>(
 
 /// The parts with the ports in reverse order.
 fn turned<I: Inbox, O: Outbox>(parts: Parts<I, O>) -> Parts<I, O>
-    ensures kept { result.kept.items ≡ parts.kept.items }
-    ensures inboxes { reverse result.inboxes.items ≡ parts.inboxes.items }
-    ensures outboxes { reverse result.outboxes.items ≡ parts.outboxes.items }
+    ensures kept { result.kept ≡ parts.kept }
+    ensures inboxes { reverse result.inboxes ≡ parts.inboxes }
+    ensures outboxes { reverse result.outboxes ≡ parts.outboxes }
 {
     let mut parts = parts;
     parts.inboxes.reverse();
@@ -141,10 +140,10 @@ fn turned<I: Inbox, O: Outbox>(parts: Parts<I, O>) -> Parts<I, O>
 fn close_pairs<W: Wires>(pairs: &[(Rank, Rank)], parts: &mut [Parts<W::In, W::Out>], wires: &mut W)
     requires owed { length pairs.now ≤ W.owed wires.old }
     requires distinct { AreDistinct pairs.now }
-    requires closable { (i : ℕ) (p : ℕ × ℕ) → slice_get pairs.now i ≡ Some p → IsClosable W.In.taken W.In.pairing W.Out.sent W.Out.pairing (map (λ p. reverse p.outboxes.items) parts.old) (map (λ p. reverse p.inboxes.items) parts.old) p.0 p.1 }
-    ensures kept { map (λ p. p.kept.items) parts.new ≡ map (λ p. p.kept.items) parts.old }
-    ensures taken { (i : ℕ) (p : ℕ × ℕ) → slice_get pairs.now i ≡ Some p → IsTaken W.In.taken W.Out.sent (map (λ p. reverse p.outboxes.items) parts.old) (map (λ p. reverse p.inboxes.items) parts.old) p }
-    ensures log { W.log wires.new ≡ W.log wires.old ++ map (entry_of W.Out.sent (map (λ p. reverse p.outboxes.items) parts.old)) pairs.now }
+    requires closable { AreClosable pairs.now parts.old }
+    ensures kept { kepts_of parts.new ≡ kepts_of parts.old }
+    ensures taken { AreTaken pairs.now parts.old }
+    ensures log { W.log wires.new ≡ W.log wires.old ++ map (entry_of (outs_of parts.old)) pairs.now }
     ensures owed { W.owed wires.old ≡ W.owed wires.new + length pairs.now }
 {
     'closing: for i in 0..pairs.len() {
@@ -156,12 +155,12 @@ fn close_pairs<W: Wires>(pairs: &[(Rank, Rank)], parts: &mut [Parts<W::In, W::Ou
 /// Closes one pair. Conditions: it is there and can be closed, and the wires owe a close.
 fn close_one<W: Wires>(from: Rank, to: Rank, parts: &mut [Parts<W::In, W::Out>], wires: &mut W)
     requires owed { 0 < W.owed wires.old }
-    requires closable { IsClosable W.In.taken W.In.pairing W.Out.sent W.Out.pairing (map (λ p. reverse p.outboxes.items) parts.old) (map (λ p. reverse p.inboxes.items) parts.old) from to }
-    ensures kept { map (λ p. p.kept.items) parts.new ≡ map (λ p. p.kept.items) parts.old }
-    ensures outboxes { LosesPort from to (map (λ p. reverse p.outboxes.items) parts.old) (map (λ p. reverse p.outboxes.items) parts.new) }
-    ensures inboxes { LosesPort to from (map (λ p. reverse p.inboxes.items) parts.old) (map (λ p. reverse p.inboxes.items) parts.new) }
-    ensures taken { IsTaken W.In.taken W.Out.sent (map (λ p. reverse p.outboxes.items) parts.old) (map (λ p. reverse p.inboxes.items) parts.old) (from, to) }
-    ensures log { W.log wires.new ≡ W.log wires.old ++ entry_of W.Out.sent (map (λ p. reverse p.outboxes.items) parts.old) (from, to) ∷ [] }
+    requires closable { IsClosable (outs_of parts.old) (ins_of parts.old) from to }
+    ensures kept { kepts_of parts.new ≡ kepts_of parts.old }
+    ensures outboxes { LosesPort from to (outs_of parts.old) (outs_of parts.new) }
+    ensures inboxes { LosesPort to from (ins_of parts.old) (ins_of parts.new) }
+    ensures taken { IsTaken (outs_of parts.old) (ins_of parts.old) (from, to) }
+    ensures log { W.log wires.new ≡ W.log wires.old ++ entry_of (outs_of parts.old) (from, to) ∷ [] }
     ensures owed { W.owed wires.old ≡ W.owed wires.new + 1 }
 {
     let out = take_outbox(parts, from, to);
@@ -172,32 +171,34 @@ fn close_one<W: Wires>(from: Rank, to: Rank, parts: &mut [Parts<W::In, W::Out>],
 /// Takes the outbox of a rank to a peer out of the parts. Condition: it is there.
 fn take_outbox<I: Inbox, O: Outbox>(parts: &mut [Parts<I, O>], rank: Rank, peer: Rank) -> O
     requires within { rank < length parts.old }
-    requires there { HasPeer peer (ports_of (map (λ p. reverse p.outboxes.items) parts.old) rank) }
-    ensures port { port_to (ports_of (map (λ p. reverse p.outboxes.items) parts.old) rank) peer ≡ Some result }
-    ensures outboxes { LosesPort rank peer (map (λ p. reverse p.outboxes.items) parts.old) (map (λ p. reverse p.outboxes.items) parts.new) }
-    ensures inboxes { map (λ p. reverse p.inboxes.items) parts.new ≡ map (λ p. reverse p.inboxes.items) parts.old }
-    ensures kept { map (λ p. p.kept.items) parts.new ≡ map (λ p. p.kept.items) parts.old }
+    requires there { HasPeer peer (ports_of (outs_of parts.old) rank) }
+    ensures port { port_to (ports_of (outs_of parts.old) rank) peer ≡ Some (O.port result) }
+    ensures outboxes { LosesPort rank peer (outs_of parts.old) (outs_of parts.new) }
+    ensures inboxes { ins_of parts.new ≡ ins_of parts.old }
+    ensures kept { kepts_of parts.new ≡ kepts_of parts.old }
 {
-    take_port(&mut parts[rank.0 as usize].outboxes, peer)
+    let part = &mut parts[rank.0 as usize];
+    take_port(&mut part.outboxes, peer)
 }
 
 /// Takes the inbox of a rank from a peer out of the parts. Condition: it is there.
 fn take_inbox<I: Inbox, O: Outbox>(parts: &mut [Parts<I, O>], rank: Rank, peer: Rank) -> I
     requires within { rank < length parts.old }
-    requires there { HasPeer peer (ports_of (map (λ p. reverse p.inboxes.items) parts.old) rank) }
-    ensures port { port_to (ports_of (map (λ p. reverse p.inboxes.items) parts.old) rank) peer ≡ Some result }
-    ensures inboxes { LosesPort rank peer (map (λ p. reverse p.inboxes.items) parts.old) (map (λ p. reverse p.inboxes.items) parts.new) }
-    ensures outboxes { map (λ p. reverse p.outboxes.items) parts.new ≡ map (λ p. reverse p.outboxes.items) parts.old }
-    ensures kept { map (λ p. p.kept.items) parts.new ≡ map (λ p. p.kept.items) parts.old }
+    requires there { HasPeer peer (ports_of (ins_of parts.old) rank) }
+    ensures port { port_to (ports_of (ins_of parts.old) rank) peer ≡ Some (I.port result) }
+    ensures inboxes { LosesPort rank peer (ins_of parts.old) (ins_of parts.new) }
+    ensures outboxes { outs_of parts.new ≡ outs_of parts.old }
+    ensures kept { kepts_of parts.new ≡ kepts_of parts.old }
 {
-    take_port(&mut parts[rank.0 as usize].inboxes, peer)
+    let part = &mut parts[rank.0 as usize];
+    take_port(&mut part.inboxes, peer)
 }
 
 /// Takes the port to a peer out of ports that stand in reverse order. Condition: it is there.
 fn take_port<P: Drop>(ports: &mut Vec<(Rank, P)>, peer: Rank) -> P
     requires { HasPeer peer (reverse ports.old.items) }
     ensures port { port_to (reverse ports.old.items) peer ≡ Some result }
-    ensures others { (k : ℕ) → k ≢ peer → port_to (reverse ports.new.items) k ≡ port_to (reverse ports.old.items) k }
+    ensures others { KeepOthers peer (reverse ports.old.items) (reverse ports.new.items) }
 {
     let place = last_place(ports, peer);
     ports.remove(place).1
@@ -208,7 +209,7 @@ fn take_port<P: Drop>(ports: &mut Vec<(Rank, P)>, peer: Rank) -> P
 fn last_place<P>(ports: &[(Rank, P)], peer: Rank) -> usize
     requires { HasPeer peer (reverse ports.now) }
     ensures within { result < length ports.now }
-    ensures last { ForSome (slice_get ports.now result) (λ p. (p.0 ≡ peer) × (port_to (reverse ports.now) peer ≡ Some p.1)) }
+    ensures last { ForSome (slice_get ports.now result) (IsPortTo peer (reverse ports.now)) }
 {
     let mut at = ports.len();
     'seeking: while at > 0 {
@@ -231,17 +232,17 @@ fn show_all<I: Inbox, O: Outbox>(
 ) -> Vec<Dense>
     requires ranks { length parts.now ≡ length plan.now.programs }
     requires tiles { map (λ c. c.tile) canvases.items ≡ range_with_len 0 (length canvases.items) }
-    requires showable { AllByRecursion (IsShowable (map (λ p. p.kept.items) parts.now) plan.now.tiles) canvases.items }
+    requires showable { AllByRecursion (IsShowable (kepts_of parts.now) plan.now.tiles) canvases.items }
     requires memory { length canvases.items ≤ vec_capacity pictures }
-    ensures { (wanted : ℕ → ℕ → Pixel) → AreAllWanted (map (λ p. p.kept.items) parts.now) plan.now.tiles wanted → result.items ≡ map (shown_on wanted) canvases.items }
+    ensures { ArePictures parts.now plan.now.tiles canvases.items result.items }
 {
     let mut pictures = pictures;
     pictures.clear();
     'showing: for canvas in canvases {
         let tile = pictures.len() as u32;
         let display = plan.display(tile);
-        let picture = show(tile, canvas, &parts[display.0 as usize].kept);
-        pictures.push_reserved(picture);
+        let part = &parts[display.0 as usize];
+        pictures.push_reserved(show(tile, canvas, &part.kept));
     }
     pictures
 }
@@ -251,7 +252,7 @@ fn show_all<I: Inbox, O: Outbox>(
 fn show(tile: u32, canvas: Canvas, kept: &[Sparse]) -> Dense
     requires blank { canvas ≡ blank_canvas tile canvas.w canvas.h canvas.strands }
     requires once { AreOnce tile (canvas.w * canvas.h) kept.now }
-    ensures { (wanted : ℕ → Pixel) → AreWanted tile wanted kept.now → result ≡ record { w = canvas.w; h = canvas.h; pixels = map wanted (range_with_len 0 (canvas.w * canvas.h)) } }
+    ensures { IsPicture tile kept.now canvas result }
 {
     let mut canvas = canvas;
     'placing: for i in 0..kept.len() {

@@ -1,7 +1,7 @@
 ghost use Rattle.std.specs.Prelude.{◌≡◌, ◌<◌, ◌≤◌, ◌+◌, ◌^◌, ℕ, IfOk, length, get_or, []};
 ghost use Rattle.icet_model.specs.Exchange.{sends_to};
 ghost use Rattle.icet_net.specs.Net.{messages_on};
-ghost use Rattle.icet_net.specs.Counting.{sent_in, Counts};
+ghost use Rattle.icet_net.specs.Counting.{sent_in, AreCounts, Counts};
 
 use icet_base::{NoMemory, Rank};
 use icet_plan::{Exchange, Kind, Plan};
@@ -11,7 +11,7 @@ use std::alloc::Global;
 pub(crate) fn counts_from(alloc: Global, plan: &Plan, from: Rank) -> Result<Vec<u32>, NoMemory>
     requires { from < length plan.now.programs }
     ensures count { IfOk result (λ counts. length counts.items ≡ length plan.now.programs) }
-    ensures counts { IfOk result (λ counts. (r : ℕ) → r < length plan.now.programs → get_or counts.items r 0 ≡ messages_on plan.now from r) }
+    ensures counts { IfOk result (λ counts. AreCounts plan.now from counts.items) }
 {
     let ranks = plan.ranks();
     let mut counts = vec![in alloc; 0u32; ranks as usize]?;

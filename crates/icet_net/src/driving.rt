@@ -27,11 +27,11 @@ pub fn drive<W: Wires, G: Gate, R: Threads + Sync>(
     burst: u32,
     gate: &G,
 ) -> Result<(), NoMemory>
-    requires hulls { AreHulls W.In.pairing W.Out.pairing hull.now ranks.old }
+    requires hulls { AreHulls hull.now ranks.old }
     requires workers { 1 ≤ workers }
     requires burst { 1 ≤ burst }
-    ensures hulls { AreHulls W.In.pairing W.Out.pairing hull.now ranks.new }
-    ensures comes_on { EachRank (ComesOn W.In.pairing W.Out.pairing) ranks.old ranks.new }
+    ensures hulls { AreHulls hull.now ranks.new }
+    ensures comes_on { EachRank ComesOn ranks.old ranks.new }
     ensures done { OnOk result (AreDone ranks.new) }
     ensures owed { W.owed wires.new ≡ W.owed wires.old }
     ensures log { W.log wires.new ≡ W.log wires.old }
@@ -55,12 +55,12 @@ fn turn_synced<W: Wires, G: Gate, R: Threads + Sync>(
     burst: u32,
     gate: &G,
 ) -> Result<bool, NoMemory>
-    requires hulls { AreHulls W.In.pairing W.Out.pairing hull.now ranks.old }
-    requires synced { AreAllSynced W.In.taken W.In.known W.Out.sent W.Out.free_known hull.now ranks.old }
-    requires course { IsOnCourse W.In.taken W.Out.sent hull.now ranks.old }
+    requires hulls { AreHulls hull.now ranks.old }
+    requires synced { AreAllSynced hull.now ranks.old }
+    requires course { IsOnCourse hull.now ranks.old }
     requires workers { 1 ≤ workers }
     requires burst { 1 ≤ burst }
-    ensures on { DrivesOn W.In.pairing W.Out.pairing hull.now ranks.old ranks.new }
+    ensures on { DrivesOn hull.now ranks.old ranks.new }
     ensures done { IfOk result (λ done. IsTrue done → AreDone ranks.new) }
     ensures fewer { IfOk result (λ done. done ≡ false → left_of ranks.new < left_of ranks.old) }
 {

@@ -8,7 +8,6 @@ pub mod hull;
 pub mod laws;
 pub mod opening;
 pub mod pictures;
-mod port_list;
 mod porting;
 mod starting;
 pub mod syncing;

@@ -1,7 +1,7 @@
 ghost use Rattle.std.specs.Prelude.{◌≡◌, ◌<◌, ◌≤◌, ◌+◌, ℕ, IfOk, OnOk, OnErr, map, length, ◌*◌, ◌^◌};
 ghost use Rattle.std.specs.List.{AllByRecursion};
 ghost use Rattle.icet_net.specs.Net.{pairs_of, blank_canvases};
-ghost use Rattle.icet_net.specs.Opening.{CanOpen, sides_of};
+ghost use Rattle.icet_net.specs.Opening.{CanOpen, sides_of, hull_for};
 ghost use Rattle.icet_net.specs.Ranks.{AreHulls, AreOpenedWith};
 
 use crate::hull::Hull;
@@ -37,8 +37,8 @@ pub fn open_net<W: Wires>(
     requires fits { CanOpen plan layout.now images.items }
     requires cap { 1 ≤ cap }
     requires strands { strands ≡ 1 }
-    ensures hull { IfOk result (λ net. net.0 ≡ record { plan = plan; cap = cap; strands = strands; sides = map sides_of layout.now; pairs = pairs_of plan }) }
-    ensures hulls { IfOk result (λ net. AreHulls W.In.pairing W.Out.pairing net.0 net.1.items) }
+    ensures hull { IfOk result (λ net. net.0 ≡ hull_for plan cap strands layout.now) }
+    ensures hulls { IfOk result (λ net. AreHulls net.0 net.1.items) }
     ensures opened { IfOk result (λ net. AreOpenedWith mode images.items net.1.items) }
     ensures log { W.log wires.new ≡ W.log wires.old }
     ensures owed { OnOk result (W.owed wires.new ≡ W.owed wires.old + length (pairs_of plan)) }

@@ -1,12 +1,12 @@
 ghost use Rattle.std.specs.Prelude.{◌≡◌, ◌≢◌, ◌<◌, ◌≤◌, ◌+◌, ◌++◌, ℕ, List, IfOk, OnOk, OnErr, length, [], replicate};
-ghost use Rattle.icet_net.specs.Net.{messages_on, pair_if, pairs_from, pairs_of};
-ghost use Rattle.icet_net.specs.Opening.{AreNewPorts, IsOpenedPair, KeepsPortsBut, ports_of};
+ghost use Rattle.icet_net.specs.Net.{messages_on, pair_if, pairs_on, pairs_of};
+ghost use Rattle.icet_net.specs.Opening.{AreNewPorts, HaveInboxes, HaveOutboxes, AreOpenedPairs, AreOpenedFrom, KeepsPortsBut, AllKeepBut, Reach, OpensPair};
 
 use crate::counting::counts_from;
-use crate::port_list::PortList;
 use icet_base::{NoMemory, Rank};
 use icet_plan::Plan;
-use icet_ring::Wires;
+use icet_rank::{Inboxes, Outboxes};
+use icet_ring::{Inbox, Wires};
 use std::alloc::Global;
 
 /// The ports of all ranks, and the pairs of ranks that they are for.
@@ -14,9 +14,9 @@ use std::alloc::Global;
 pub(crate) struct Ports<W: Wires> {
     pub pairs: Vec<(Rank, Rank)>,
     /// By receiver, and each list ascending by sender.
-    pub inboxes: Vec<PortList<W::In>>,
+    pub inboxes: Vec<Inboxes<W::In>>,
     /// By sender, and each list ascending by receiver.
-    pub outboxes: Vec<PortList<W::Out>>,
+    pub outboxes: Vec<Outboxes<W::Out>>,
 }
 
 /// Opens the pairs that the plan uses.
@@ -30,15 +30,15 @@ pub(crate) fn open_ports<W: Wires>(
     ensures pairs { IfOk result (λ p. p.pairs.items ≡ pairs_of plan.now) }
     ensures in_count { IfOk result (λ p. length p.inboxes.items ≡ length plan.now.programs) }
     ensures out_count { IfOk result (λ p. length p.outboxes.items ≡ length plan.now.programs) }
-    ensures inboxes { IfOk result (λ p. (r : ℕ) → r < length plan.now.programs → AreNewPorts W.In.taken W.In.room (λ q. messages_on plan.now q r) (length plan.now.programs) (ports_of p.inboxes.items r)) }
-    ensures outboxes { IfOk result (λ p. (q : ℕ) → q < length plan.now.programs → AreNewPorts W.Out.sent W.Out.room (λ r. messages_on plan.now q r) (length plan.now.programs) (ports_of p.outboxes.items q)) }
-    ensures paired { IfOk result (λ p. (q r : ℕ) → 0 < messages_on plan.now q r → IsOpenedPair W.In.pairing W.Out.pairing cap q r (ports_of p.outboxes.items q) (ports_of p.inboxes.items r)) }
+    ensures inboxes { IfOk result (λ p. HaveInboxes plan.now (length plan.now.programs) p.inboxes.items) }
+    ensures outboxes { IfOk result (λ p. HaveOutboxes plan.now p.outboxes.items) }
+    ensures paired { IfOk result (λ p. AreOpenedPairs plan.now cap p.outboxes.items p.inboxes.items) }
     ensures log { W.log wires.new ≡ W.log wires.old }
     ensures owed { OnOk result (W.owed wires.new ≡ W.owed wires.old + length (pairs_of plan.now)) }
     ensures owed_kept { OnErr result (W.owed wires.old ≤ W.owed wires.new) }
 {
     let mut pairs = Vec::new(alloc);
-    let mut inboxes = empty_lists(alloc, plan.ranks())?;
+    let mut inboxes = no_inboxes(alloc, plan.ranks())?;
     let mut outboxes = Vec::new(alloc);
     'opening: for from in 0..plan.ranks() {
         let outs = open_from(
@@ -67,24 +67,24 @@ fn open_from<W: Wires>(
     wires: &mut W,
     cap: u32,
     pairs: &mut Vec<(Rank, Rank)>,
-    inboxes: &mut Vec<PortList<W::In>>,
-) -> Result<PortList<W::Out>, NoMemory>
+    inboxes: &mut Vec<Inboxes<W::In>>,
+) -> Result<Outboxes<W::Out>, NoMemory>
     requires cap { 0 < cap }
     requires from { from < length plan.now.programs }
     requires in_count { length inboxes.old.items ≡ length plan.now.programs }
-    requires inboxes { (r : ℕ) → r < length plan.now.programs → AreNewPorts W.In.taken W.In.room (λ q. messages_on plan.now q r) from (ports_of inboxes.old.items r) }
-    ensures pairs { IfOk result (λ _. pairs.new.items ≡ pairs.old.items ++ pairs_from plan.now (length plan.now.programs) from) }
-    ensures in_count { IfOk result (λ _. length inboxes.new.items ≡ length plan.now.programs) }
-    ensures inboxes { IfOk result (λ _. (r : ℕ) → r < length plan.now.programs → AreNewPorts W.In.taken W.In.room (λ q. messages_on plan.now q r) (from + 1) (ports_of inboxes.new.items r)) }
-    ensures others { IfOk result (λ _. (r : ℕ) → KeepsPortsBut from (ports_of inboxes.old.items r) (ports_of inboxes.new.items r)) }
-    ensures outboxes { IfOk result (λ outs. AreNewPorts W.Out.sent W.Out.room (λ r. messages_on plan.now from r) (length plan.now.programs) outs) }
-    ensures paired { IfOk result (λ outs. (r : ℕ) → r < length plan.now.programs → 0 < messages_on plan.now from r → IsOpenedPair W.In.pairing W.Out.pairing cap from r outs (ports_of inboxes.new.items r)) }
+    requires inboxes { HaveInboxes plan.now from inboxes.old.items }
+    ensures pairs { OnOk result (pairs.new.items ≡ pairs.old.items ++ pairs_on plan.now from) }
+    ensures in_count { OnOk result (length inboxes.new.items ≡ length plan.now.programs) }
+    ensures inboxes { OnOk result (HaveInboxes plan.now (from + 1) inboxes.new.items) }
+    ensures others { OnOk result (AllKeepBut from inboxes.old.items inboxes.new.items) }
+    ensures outboxes { IfOk result (AreNewPorts (λ r. messages_on plan.now from r) (length plan.now.programs)) }
+    ensures paired { IfOk result (λ outs. AreOpenedFrom plan.now cap from outs inboxes.new.items) }
     ensures log { W.log wires.new ≡ W.log wires.old }
-    ensures owed { OnOk result (W.owed wires.new ≡ W.owed wires.old + length (pairs_from plan.now (length plan.now.programs) from)) }
+    ensures owed { OnOk result (W.owed wires.new ≡ W.owed wires.old + length (pairs_on plan.now from)) }
     ensures owed_kept { OnErr result (W.owed wires.old ≤ W.owed wires.new) }
 {
     let counts = counts_from(alloc, plan, from)?;
-    let mut outs = PortList::new(alloc);
+    let mut outs = Outboxes::new(alloc);
     'reaching: for to in 0..plan.ranks() {
         open_one(
             alloc,
@@ -110,16 +110,16 @@ fn open_one<W: Wires>(
     wires: &mut W,
     cap: u32,
     pairs: &mut Vec<(Rank, Rank)>,
-    outs: &mut PortList<W::Out>,
-    ins: &mut PortList<W::In>,
+    outs: &mut Outboxes<W::Out>,
+    ins: &mut Inboxes<W::In>,
 ) -> Result<(), NoMemory>
     requires { 0 < cap }
     ensures pairs { OnOk result (pairs.new.items ≡ pairs.old.items ++ pair_if from to total) }
-    ensures outs { OnOk result ((count : ℕ → ℕ) → count to ≡ total → AreNewPorts W.Out.sent W.Out.room count to outs.old → AreNewPorts W.Out.sent W.Out.room count (to + 1) outs.new) }
-    ensures ins { OnOk result ((count : ℕ → ℕ) → count from ≡ total → AreNewPorts W.In.taken W.In.room count from ins.old → AreNewPorts W.In.taken W.In.room count (from + 1) ins.new) }
+    ensures outs { OnOk result (Reach to total outs.old outs.new) }
+    ensures ins { OnOk result (Reach from total ins.old ins.new) }
     ensures out_others { OnOk result (KeepsPortsBut to outs.old outs.new) }
     ensures in_others { OnOk result (KeepsPortsBut from ins.old ins.new) }
-    ensures paired { OnOk result ((a b : ℕ → ℕ) → 0 < total → AreNewPorts W.Out.sent W.Out.room a to outs.old → AreNewPorts W.In.taken W.In.room b from ins.old → IsOpenedPair W.In.pairing W.Out.pairing cap from to outs.new ins.new) }
+    ensures paired { OnOk result (OpensPair cap from to total outs.old ins.old outs.new ins.new) }
     ensures log { W.log wires.new ≡ W.log wires.old }
     ensures owed { OnOk result (W.owed wires.new ≡ W.owed wires.old + length (pair_if from to total)) }
     ensures owed_kept { OnErr result (W.owed wires.old ≤ W.owed wires.new) }
@@ -134,13 +134,13 @@ fn open_one<W: Wires>(
     Ok(())
 }
 
-/// So many lists without a port.
-fn empty_lists<P: Drop>(alloc: Global, count: u32) -> Result<Vec<PortList<P>>, NoMemory>
+/// So many lists without an inbox.
+fn no_inboxes<I: Inbox>(alloc: Global, count: u32) -> Result<Vec<Inboxes<I>>, NoMemory>
     ensures { IfOk result (λ lists. lists.items ≡ replicate count []) }
 {
     let mut lists = Vec::with_capacity(alloc, count as usize)?;
     'making: for _ in 0..count {
-        lists.push(PortList::new(alloc))?;
+        lists.push(Inboxes::new(alloc))?;
     }
     Ok(lists)
 }

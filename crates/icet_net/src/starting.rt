@@ -2,13 +2,12 @@ ghost use Rattle.std.specs.Prelude.{◌≡◌, ◌<◌, ◌≤◌, ◌+◌, ℕ,
 ghost use Rattle.std.specs.Vec.Iter.{into_iter_items, into_iter_len};
 ghost use Rattle.icet_model.specs.Plan.{IsPlan};
 ghost use Rattle.icet_net.specs.Net.{messages_on};
-ghost use Rattle.icet_net.specs.Ranks.{AreWholeImages, machine_at};
-ghost use Rattle.icet_net.specs.Opening.{AreNewPorts, IsStarted, ports_of};
+ghost use Rattle.icet_net.specs.Ranks.{AreWholeImages};
+ghost use Rattle.icet_net.specs.Opening.{AreNewPorts, HaveImages, HaveInboxes, HaveOutboxes, IsStarted, AreStarted};
 
-use crate::port_list::PortList;
 use icet_base::{Mode, NoMemory, Rank};
 use icet_plan::{Plan, Program};
-use icet_rank::{Image, RankMachine};
+use icet_rank::{Image, Inboxes, Outboxes, RankMachine};
 use icet_ring::{Inbox, Outbox};
 use std::alloc::Global;
 use std::vec::IntoIter;
@@ -19,17 +18,17 @@ pub(crate) fn machines_of<I: Inbox, O: Outbox>(
     plan: &Plan,
     mode: Mode,
     images: Vec<Image>,
-    inboxes: Vec<PortList<I>>,
-    outboxes: Vec<PortList<O>>,
+    inboxes: Vec<Inboxes<I>>,
+    outboxes: Vec<Outboxes<O>>,
 ) -> Result<Vec<RankMachine<I, O>>, NoMemory>
     requires count { length images.items ≡ length plan.now.programs }
     requires in_count { length inboxes.items ≡ length plan.now.programs }
     requires out_count { length outboxes.items ≡ length plan.now.programs }
-    requires whole { (r : ℕ) → r < length plan.now.programs → AreWholeImages plan.now.tiles.sizes (get_or images.items r []) }
-    requires inboxes { (r : ℕ) → r < length plan.now.programs → AreNewPorts I.taken I.room (λ q. messages_on plan.now q r) (length plan.now.programs) (ports_of inboxes.items r) }
-    requires outboxes { (q : ℕ) → q < length plan.now.programs → AreNewPorts O.sent O.room (λ r. messages_on plan.now q r) (length plan.now.programs) (ports_of outboxes.items q) }
+    requires whole { HaveImages plan.now images.items }
+    requires inboxes { HaveInboxes plan.now (length plan.now.programs) inboxes.items }
+    requires outboxes { HaveOutboxes plan.now outboxes.items }
     ensures count { IfOk result (λ machines. length machines.items ≡ length plan.now.programs) }
-    ensures started { IfOk result (λ machines. (r : ℕ) → r < length plan.now.programs → IsStarted plan.now mode (get_or images.items r []) (ports_of inboxes.items r) (ports_of outboxes.items r) r (machine_at machines.items r)) }
+    ensures all { IfOk result (λ m. AreStarted plan.now mode images.items inboxes.items outboxes.items m.items) }
 {
     let mut machines = Vec::new(alloc);
     let mut images = images.into_iter();
@@ -69,13 +68,13 @@ fn start<I: Inbox, O: Outbox>(
     rank: Rank,
     mode: Mode,
     images: Image,
-    ins: PortList<I>,
-    outs: PortList<O>,
+    ins: Inboxes<I>,
+    outs: Outboxes<O>,
 ) -> Result<RankMachine<I, O>, NoMemory>
     requires rank { rank < length plan.now.programs }
     requires whole { AreWholeImages plan.now.tiles.sizes images }
-    requires ins { AreNewPorts I.taken I.room (λ q. messages_on plan.now q rank) (length plan.now.programs) ins }
-    requires outs { AreNewPorts O.sent O.room (λ r. messages_on plan.now rank r) (length plan.now.programs) outs }
+    requires ins { AreNewPorts (λ q. messages_on plan.now q rank) (length plan.now.programs) ins }
+    requires outs { AreNewPorts (λ r. messages_on plan.now rank r) (length plan.now.programs) outs }
     ensures { IfOk result (λ m. IsStarted plan.now mode images ins outs rank m) }
 {
     let _ranks = plan.ranks();

@@ -1,7 +1,6 @@
 ghost use Rattle.std.specs.Prelude.{◌≡◌, ◌≢◌, ◌<◌, ◌+◌, ℕ, OnOk, length, Some, slice_get};
-ghost use Rattle.icet_rank.specs.Moves.{ArePaired};
 ghost use Rattle.icet_net.specs.Ranks.{AreHulls, EachRank, MetOthers, AreAllSynced, IsOnCourse, machine_at};
-ghost use Rattle.icet_net.specs.Syncs.{AreRunning, MetPair, IsSyncedPair, AreSyncedBelow};
+ghost use Rattle.icet_net.specs.Syncs.{AreRunning, CanMeet, MetPair, HasMet, SyncsNext};
 
 use crate::hull::Hull;
 use icet_base::{NoMemory, Rank};
@@ -20,11 +19,11 @@ pub fn sync_all<W: Wires>(
     ranks: &mut [RankMachine<W::In, W::Out>],
     wires: &mut W,
 ) -> Result<(), NoMemory>
-    requires hulls { AreHulls W.In.pairing W.Out.pairing hull.now ranks.old }
-    ensures hulls { AreHulls W.In.pairing W.Out.pairing hull.now ranks.new }
-    ensures same { EachRank (MetOthers W.In.taken W.In.room W.In.pairing W.Out.sent W.Out.room W.Out.pairing) ranks.old ranks.new }
-    ensures synced { OnOk result (AreAllSynced W.In.taken W.In.known W.Out.sent W.Out.free_known hull.now ranks.new) }
-    ensures course { OnOk result (IsOnCourse W.In.taken W.Out.sent hull.now ranks.new) }
+    requires hulls { AreHulls hull.now ranks.old }
+    ensures hulls { AreHulls hull.now ranks.new }
+    ensures same { EachRank MetOthers ranks.old ranks.new }
+    ensures synced { OnOk result (AreAllSynced hull.now ranks.new) }
+    ensures course { OnOk result (IsOnCourse hull.now ranks.new) }
     ensures owed { W.owed wires.new ≡ W.owed wires.old }
     ensures log { W.log wires.new ≡ W.log wires.old }
 {
@@ -43,10 +42,10 @@ fn sync_at<W: Wires>(
     wires: &mut W,
 ) -> Result<(), NoMemory>
     requires within { place < length hull.now.pairs }
-    requires hulls { AreHulls W.In.pairing W.Out.pairing hull.now ranks.old }
-    ensures hulls { AreHulls W.In.pairing W.Out.pairing hull.now ranks.new }
-    ensures same { EachRank (MetOthers W.In.taken W.In.room W.In.pairing W.Out.sent W.Out.room W.Out.pairing) ranks.old ranks.new }
-    ensures synced { OnOk result (AreSyncedBelow W.In.taken W.In.known W.Out.sent W.Out.free_known place hull.now.cap hull.now.pairs ranks.old → AreSyncedBelow W.In.taken W.In.known W.Out.sent W.Out.free_known (place + 1) hull.now.cap hull.now.pairs ranks.new) }
+    requires hulls { AreHulls hull.now ranks.old }
+    ensures hulls { AreHulls hull.now ranks.new }
+    ensures same { EachRank MetOthers ranks.old ranks.new }
+    ensures synced { OnOk result (SyncsNext place hull.now ranks.old ranks.new) }
     ensures owed { W.owed wires.new ≡ W.owed wires.old }
     ensures log { W.log wires.new ≡ W.log wires.old }
 {
@@ -68,9 +67,9 @@ fn sync_two<W: Wires>(
     requires apart { from ≢ to }
     requires sender { (machine_at ranks.old from).number ≡ from }
     requires receiver { (machine_at ranks.old to).number ≡ to }
-    requires paired { ArePaired W.Out.pairing W.In.pairing from to cap (machine_at ranks.old from).outboxes (machine_at ranks.old to).inboxes }
-    ensures met { MetPair W.In.taken W.In.room W.In.pairing W.Out.sent W.Out.room W.Out.pairing from to cap ranks.old ranks.new }
-    ensures synced { OnOk result (IsSyncedPair W.In.taken W.In.known W.Out.sent W.Out.free_known cap ranks.new from to) }
+    requires paired { CanMeet from to cap ranks.old }
+    ensures met { MetPair from to cap ranks.old ranks.new }
+    ensures synced { OnOk result (HasMet cap ranks.new from to) }
     ensures owed { W.owed wires.new ≡ W.owed wires.old }
     ensures log { W.log wires.new ≡ W.log wires.old }
 {
@@ -87,7 +86,7 @@ fn sync_two<W: Wires>(
 
 /// Looks at each machine, which keeps what its type says.
 pub(crate) fn look_at<I: Inbox, O: Outbox>(ranks: &[RankMachine<I, O>])
-    ensures { AreRunning I.taken I.room O.sent O.room ranks.now }
+    ensures { AreRunning ranks.now }
 {
     'looking: for i in 0..ranks.len() {
         let _number = ranks[i].number();

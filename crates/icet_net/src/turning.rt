@@ -24,8 +24,8 @@ pub fn turn<I: Inbox, O: Outbox, G: Gate, R: Threads + Sync>(
 ) -> Result<(), NoMemory>
     requires workers { 1 ≤ workers }
     requires burst { 1 ≤ burst }
-    ensures goes_on { EachRank (GoesOn I.pairing O.pairing) ranks.old ranks.new }
-    ensures turned { OnOk result (EachRank (HadTurn I.taken I.room I.known I.misses I.pairing O.sent O.room O.free_known O.misses O.pairing burst) ranks.old ranks.new) }
+    ensures goes_on { EachRank GoesOn ranks.old ranks.new }
+    ensures turned { OnOk result (EachRank (HadTurn burst) ranks.old ranks.new) }
 {
     'working: for worker in 0..workers {
         let from = share_from(ranks.len(), worker, workers);
@@ -45,7 +45,6 @@ fn share_from(count: usize, worker: u32, workers: u32) -> usize
 }
 
 /// Turns one worker's ranks, those from `from` up to `to`.
-#[tactic(auto, using(crate::proofs::TurnSteps::between_next, crate::proofs::TurnSteps::between_none, crate::proofs::TurnSteps::each_goes_on_set, crate::proofs::TurnSteps::each_goes_on_refl))]
 fn turn_share<I: Inbox, O: Outbox, G: Gate>(
     ranks: &mut [RankMachine<I, O>],
     from: usize,
@@ -56,8 +55,8 @@ fn turn_share<I: Inbox, O: Outbox, G: Gate>(
     requires from { from ≤ to }
     requires to { to ≤ length ranks.old }
     requires burst { 1 ≤ burst }
-    ensures goes_on { EachRank (GoesOn I.pairing O.pairing) ranks.old ranks.new }
-    ensures turned { OnOk result (Between (TurnsOn I.taken I.room I.known I.misses I.pairing O.sent O.room O.free_known O.misses O.pairing burst) from to ranks.old ranks.new) }
+    ensures goes_on { EachRank GoesOn ranks.old ranks.new }
+    ensures turned { OnOk result (Between (TurnsOn burst) from to ranks.old ranks.new) }
 {
     'turning: for at in from..to {
         turn_rank(&mut ranks[at], burst, gate)?;
@@ -72,8 +71,8 @@ fn turn_rank<I: Inbox, O: Outbox, G: Gate>(
     gate: &G,
 ) -> Result<(), NoMemory>
     requires burst { 1 ≤ burst }
-    ensures goes_on { GoesOn I.pairing O.pairing rank.old rank.new }
-    ensures turned { OnOk result (TurnsOn I.taken I.room I.known I.misses I.pairing O.sent O.room O.free_known O.misses O.pairing burst rank.old rank.new) }
+    ensures goes_on { GoesOn rank.old rank.new }
+    ensures turned { OnOk result (TurnsOn burst rank.old rank.new) }
 {
     gate.enter(rank.number());
     'stepping: for steps in 0..burst {

@@ -1,15 +1,15 @@
-ghost use Rattle.std.specs.Prelude.{◌≡◌, ◌++◌, false, codes, decimal, is_err};
-ghost use Rattle.icet_model.specs.Faults.{HasCause};
-ghost use Rattle.icet_model.specs.Picture.{header, sample_bytes, picture_text};
-ghost use Rattle.icet_base.specs.PenText.{text_of, Puts};
+ghost use Rattle.std.specs.Prelude.{◌≡◌, ◌++◌, false, codes, decimal, map};
+ghost use Rattle.icet_scene_model.specs.Picture.{byte_of, header, sample_bytes, picture_text};
+ghost use Rattle.icet_model.specs.Pixel.{finished};
+ghost use Rattle.icet_base.specs.PenText.{Puts};
 
 use icet_base::{Mode, Pen, Sink, WriteFault};
 use icet_pixel::{Dense, Fragment, Pixel, finish};
 
 /// Puts the picture's text into the pen: the header of a PAM file with four samples of one byte a
-/// pixel, and then the samples row by row from the top, red, green, blue and alpha, premultiplied.
-/// Condition: the pen hasn't failed. After a fault the sink holds a front of the pen's text.
-#[tactic(auto, using(crate::proofs::Parts::puts_then, crate::proofs::Parts::puts_failed))]
+/// pixel, and then the samples row by row from the top, red, green, blue and alpha, premultiplied, and
+/// each at most 255. After a fault the sink holds a front of the pen's text.
+#[tactic(auto, using(crate::proofs::PutPieces::puts_then, crate::proofs::PutPieces::puts_failed))]
 pub fn write_picture<K: Sink>(
     pen: &mut Pen<'_, K>,
     mode: Mode,
@@ -17,10 +17,7 @@ pub fn write_picture<K: Sink>(
     background: Fragment,
 ) -> Result<(), WriteFault>
     requires { pen.old.failed ≡ false }
-    ensures puts { Puts result (K.written pen.old.sink.now) (K.written pen.new.sink.now) (text_of (K.written pen.old.sink.now) pen.old.waiting.items) (text_of (K.written pen.new.sink.now) pen.new.waiting.items) (picture_text mode background picture.now.w picture.now.h picture.now.pixels) }
-    ensures cause { HasCause (K.faults pen.old.sink.now) (K.faults pen.new.sink.now) result }
-    ensures failed { pen.new.failed ≡ is_err result }
-    ensures same_reference { pen.new.sink.ghost_name ≡ pen.old.sink.ghost_name }
+    ensures { Puts K.told pen.old pen.new result (picture_text mode background picture.now.w picture.now.h picture.now.pixels) }
 {
     write_header(pen, picture.width(), picture.height())?;
     write_samples(pen, mode, picture.as_slice(), background)
@@ -29,10 +26,7 @@ pub fn write_picture<K: Sink>(
 /// Puts the lines before the samples.
 fn write_header<K: Sink>(pen: &mut Pen<'_, K>, w: u32, h: u32) -> Result<(), WriteFault>
     requires { pen.old.failed ≡ false }
-    ensures puts { Puts result (K.written pen.old.sink.now) (K.written pen.new.sink.now) (text_of (K.written pen.old.sink.now) pen.old.waiting.items) (text_of (K.written pen.new.sink.now) pen.new.waiting.items) (header w h) }
-    ensures cause { HasCause (K.faults pen.old.sink.now) (K.faults pen.new.sink.now) result }
-    ensures failed { pen.new.failed ≡ is_err result }
-    ensures same_reference { pen.new.sink.ghost_name ≡ pen.old.sink.ghost_name }
+    ensures { Puts K.told pen.old pen.new result (header w h) }
 {
     write_fields(
         pen,
@@ -45,7 +39,7 @@ fn write_header<K: Sink>(pen: &mut Pen<'_, K>, w: u32, h: u32) -> Result<(), Wri
 }
 
 /// Puts two names, each with its number, and then the rest.
-#[tactic(auto, using(crate::proofs::Parts::puts_then, crate::proofs::Parts::puts_failed))]
+#[tactic(auto, using(crate::proofs::PutPieces::puts_then, crate::proofs::PutPieces::puts_failed))]
 fn write_fields<K: Sink>(
     pen: &mut Pen<'_, K>,
     first: &[u8],
@@ -55,13 +49,30 @@ fn write_fields<K: Sink>(
     rest: &[u8],
 ) -> Result<(), WriteFault>
     requires { pen.old.failed ≡ false }
-    ensures puts { Puts result (K.written pen.old.sink.now) (K.written pen.new.sink.now) (text_of (K.written pen.old.sink.now) pen.old.waiting.items) (text_of (K.written pen.new.sink.now) pen.new.waiting.items) ((first.now ++ decimal m) ++ ((second.now ++ decimal n) ++ rest.now)) }
-    ensures cause { HasCause (K.faults pen.old.sink.now) (K.faults pen.new.sink.now) result }
-    ensures failed { pen.new.failed ≡ is_err result }
-    ensures same_reference { pen.new.sink.ghost_name ≡ pen.old.sink.ghost_name }
+    ensures { Puts K.told pen.old pen.new result ((first.now ++ decimal m) ++ ((second.now ++ decimal n) ++ rest.now)) }
 {
     pen.put_number(first, m)?;
     pen.put_number_between(second, n, rest)
+}
+
+/// The four bytes of a pixel.
+fn bytes_of(mode: Mode, pixel: Pixel, background: Fragment) -> [u8; 4]
+    ensures { result ≡ map byte_of (finished mode pixel background) }
+{
+    let samples = finish(mode, pixel, background);
+    [
+        byte_of(samples[0]),
+        byte_of(samples[1]),
+        byte_of(samples[2]),
+        byte_of(samples[3]),
+    ]
+}
+
+/// A sample in one byte, at most 255.
+fn byte_of(sample: u16) -> u8
+    ensures { result ≡ byte_of sample }
+{
+    sample.min(255) as u8
 }
 
 /// Puts four bytes a pixel.
@@ -72,13 +83,10 @@ fn write_samples<K: Sink>(
     background: Fragment,
 ) -> Result<(), WriteFault>
     requires { pen.old.failed ≡ false }
-    ensures puts { Puts result (K.written pen.old.sink.now) (K.written pen.new.sink.now) (text_of (K.written pen.old.sink.now) pen.old.waiting.items) (text_of (K.written pen.new.sink.now) pen.new.waiting.items) (sample_bytes mode background pixels.now) }
-    ensures cause { HasCause (K.faults pen.old.sink.now) (K.faults pen.new.sink.now) result }
-    ensures failed { pen.new.failed ≡ is_err result }
-    ensures same_reference { pen.new.sink.ghost_name ≡ pen.old.sink.ghost_name }
+    ensures { Puts K.told pen.old pen.new result (sample_bytes mode background pixels.now) }
 {
     for pixel in pixels {
-        pen.put(&finish(mode, *pixel, background))?;
+        pen.put(&bytes_of(mode, *pixel, background))?;
     }
     Ok(())
 }

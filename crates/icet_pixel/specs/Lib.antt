@@ -1,1 +1,2 @@
+pub mod Blending
 pub mod Dense

@@ -5,13 +5,14 @@ use icet_base::limits::MAX_DEPTH;
 use std::marker::Model;
 
 /// What was drawn at one place: premultiplied colour, alpha and depth. A channel of the colour is at
-/// most the alpha, and the depth at most `MAX_DEPTH`; the nearer fragment has the lower depth.
+/// most the alpha, and the depth at most `MAX_DEPTH`; the nearer fragment has the lower depth. Pictures
+/// of one byte a sample hold fragments whose alpha is at most 255.
 #[derive(Clone, Copy, Debug, PartialEq, Eq)]
 pub struct Fragment {
-    r: u8,
-    g: u8,
-    b: u8,
-    a: u8,
+    r: u16,
+    g: u16,
+    b: u16,
+    a: u16,
     z: u32,
 }
 
@@ -30,7 +31,7 @@ impl Model for Fragment {
 impl Fragment {
     /// The fragment of these samples, or None exactly where a channel exceeds the alpha or the depth
     /// exceeds `MAX_DEPTH`.
-    pub fn new(r: u8, g: u8, b: u8, a: u8, z: u32) -> Option<Fragment>
+    pub fn new(r: u16, g: u16, b: u16, a: u16, z: u32) -> Option<Fragment>
         ensures value { IfSome result (λ f. f ≡ record { r = r; g = g; b = b; a = a; z = z }) }
         ensures exact { IsSome result ↔ IsFragment (record { r = r; g = g; b = b; a = a; z = z }) }
     {
@@ -41,8 +42,17 @@ impl Fragment {
         }
     }
 
+    /// The fragment of these samples. Condition: no channel exceeds the alpha, and the depth is at most
+    /// `MAX_DEPTH`.
+    pub fn of(r: u16, g: u16, b: u16, a: u16, z: u32) -> Fragment
+        requires { IsFragment (record { r = r; g = g; b = b; a = a; z = z }) }
+        ensures { result ≡ record { r = r; g = g; b = b; a = a; z = z } }
+    {
+        Fragment { r, g, b, a, z }
+    }
+
     /// Red, premultiplied by the alpha.
-    pub fn r(&self) -> u8
+    pub fn r(&self) -> u16
         ensures value { result ≡ self.now.r }
         ensures within { result ≤ self.now.a }
     {
@@ -50,7 +60,7 @@ impl Fragment {
     }
 
     /// Green, premultiplied by the alpha.
-    pub fn g(&self) -> u8
+    pub fn g(&self) -> u16
         ensures value { result ≡ self.now.g }
         ensures within { result ≤ self.now.a }
     {
@@ -58,15 +68,15 @@ impl Fragment {
     }
 
     /// Blue, premultiplied by the alpha.
-    pub fn b(&self) -> u8
+    pub fn b(&self) -> u16
         ensures value { result ≡ self.now.b }
         ensures within { result ≤ self.now.a }
     {
         self.b
     }
 
-    /// The alpha: 0 is transparent and 255 opaque.
-    pub fn a(&self) -> u8
+    /// The alpha: 0 is transparent, and opaque is 255, or 65,535 in wide pictures.
+    pub fn a(&self) -> u16
         ensures value { result ≡ self.now.a }
         ensures within { IsFragment self.now }
     {

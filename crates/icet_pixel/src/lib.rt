@@ -3,8 +3,9 @@
 
 pub mod dense;
 pub mod fragment;
+pub mod laws;
 pub mod pixel;
 
 pub use dense::Dense;
 pub use fragment::Fragment;
-pub use pixel::{Pixel, finish, join};
+pub use pixel::{Pixel, finish, join, over};

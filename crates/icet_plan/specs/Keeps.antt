@@ -1,9 +1,10 @@
 -- What the types of this crate keep.
-use Rattle.std.specs.Prelude.{◌≡◌, ℕ, ◌<◌, ◌≤◌, ◌^◌, List, length, get_or, map}
+use Rattle.std.specs.Prelude.{◌≡◌, ℕ, ◌+◌, ◌<◌, ◌≤◌, ◌^◌, List, length, get_or, map}
 use Rattle.icet_model.specs.declared.exchange.Exchange.{Exchange}
 use Rattle.icet_model.specs.Exchange.{of_rank}
 use Rattle.icet_model.specs.Plan.{PlanView, IsPlan, plan_exchanges}
-use Rattle.icet_model.specs.Core.{after, sent, taken, IsLawful, IsEnabled}
+use Rattle.icet_model.specs.Core.{after, start, sent, taken, CanSwap, IsLawful, IsEnabled}
+use Rattle.icet_model.specs.declared.exchange.Kind.{Kind}
 use Rattle.icet_plan.specs.Pairs.{PairsView, count_at}
 use Rattle.icet_plan.specs.Places.{places}
 
@@ -58,3 +59,19 @@ pub record IsLowestLeft (core : CoreView) (r : ℕ) : Type 0 where
 -- one more exchange of the rank is done
 abbrev pub gone : CoreView → ℕ → CoreView
 gone core r = record { plan = core.plan; cap = core.cap; done = after core.done r }
+
+-- the exchange of a rank with its peer can be made where the core stands
+abbrev pub CanMake : CoreView → ℕ → Kind → ℕ → Type 0
+CanMake core rank kind peer = CanSwap (all_of core) core.cap core.done rank kind peer
+
+-- a core in which nothing was exchanged yet
+abbrev pub core_at_start : PlanView → ℕ → CoreView
+core_at_start plan cap = record { plan = plan; cap = cap; done = start (plan_exchanges plan) }
+
+-- the rank has done all its exchanges
+abbrev pub HasFinished : CoreView → ℕ → Type 0
+HasFinished core rank = get_or core.done rank 0 ≡ length (of_rank (all_of core) rank)
+
+-- so many messages from rank q to rank r were sent and not taken
+abbrev pub AreWaiting : CoreView → ℕ → ℕ → ℕ → Type 0
+AreWaiting core q r count = sent (all_of core) core.done q r ≡ taken (all_of core) core.done q r + count

@@ -27,3 +27,11 @@ one_tile ops = record { tiles = record { sizes = 1 ∷ []; displays = 0 ∷ [] }
 -- two ranks, of which rank 0 shows its own image where that of rank 1 is said
 abbrev pub another_leaf : PlanView
 another_leaf = record { tiles = record { sizes = 1 ∷ []; displays = 0 ∷ [] }; brackets = Leaf 1 ∷ []; programs = (Load 0 0 ∷ Keep 0 ∷ []) ∷ [] ∷ [] }
+
+-- two ranks that each take in round 0 before they send
+abbrev pub takes_before_sends : List (List Exchange)
+takes_before_sends = (take 0 1 0 1 ∷ send 0 1 0 1 ∷ []) ∷ (send 0 0 0 1 ∷ take 0 0 0 1 ∷ []) ∷ []
+
+-- two messages of one pair in round 0
+abbrev pub twice_a_round : List (List Exchange)
+twice_a_round = (send 0 1 0 1 ∷ send 0 1 1 1 ∷ []) ∷ (take 0 0 0 1 ∷ take 0 0 1 1 ∷ []) ∷ []

@@ -1,7 +1,7 @@
 ghost use Rattle.std.specs.Prelude.{◌≡◌, ℕ, ◌<◌, ◌^◌, length, List, map, slice_get, Some, IfOk};
 ghost use Rattle.icet_model.specs.Exchange.{of_rank};
 ghost use Rattle.icet_plan.specs.Places.{places};
-ghost use Rattle.icet_model.specs.Plan.{PlanView, IsPlan, plan_exchanges};
+ghost use Rattle.icet_model.specs.Plan.{PlanView, IsPlan, plan_exchanges, plan_view};
 
 use crate::program::Places;
 use crate::{Bracket, Exchange, Program};
@@ -51,8 +51,8 @@ impl Plan {
     ) -> Result<Plan, NoMemory>
         requires tiles { length sizes.items < 2 ^ 32 }
         requires ranks { length programs.items < 2 ^ 32 }
-        requires plan { IsPlan (record { tiles = record { sizes = sizes.items; displays = displays.items }; brackets = brackets.items; programs = programs.items }) }
-        ensures { IfOk result (λ p. p ≡ record { tiles = record { sizes = sizes.items; displays = displays.items }; brackets = brackets.items; programs = programs.items }) }
+        requires plan { IsPlan (plan_view sizes.items displays.items brackets.items programs.items) }
+        ensures { IfOk result (λ p. p ≡ plan_view sizes.items displays.items brackets.items programs.items) }
     {
         let places = places_of(alloc, &programs)?;
         Ok(Plan {

@@ -1,8 +1,8 @@
 ghost use Rattle.std.specs.Prelude.{◌≡◌, ◌≢◌, ◌+◌, ◌-◌, ◌<◌, ◌≤◌, ◌^◌, ℕ, length, map, get_or, slice_get, replicate, Some, None, IfOk, IfSome, IsTrue, ◌↔◌};
 ghost use Rattle.icet_model.specs.Exchange.{of_rank};
 ghost use Rattle.icet_model.specs.Plan.{plan_exchanges};
-ghost use Rattle.icet_model.specs.Core.{IsLawful, AllDone, CanSwap, after, due, sent, start, taken};
-ghost use Rattle.icet_plan.specs.Keeps.{CanGo, IsLowest, IsLowestLeft, all_of, gone};
+ghost use Rattle.icet_model.specs.Core.{IsLawful, AllDone, after, due, sent, start, taken};
+ghost use Rattle.icet_plan.specs.Keeps.{AreWaiting, CanGo, CanMake, HasFinished, IsLowest, IsLowestLeft, all_of, core_at_start, gone};
 
 use crate::pairs::PairCounts;
 use crate::{Exchange, Kind, Plan};
@@ -53,7 +53,7 @@ impl<'a> Core<'a> {
     /// `NoMemory`.
     pub fn start(alloc: Global, plan: &'a Plan, cap: u32) -> Result<Core<'a>, NoMemory>
         requires { 1 ≤ cap }
-        ensures { IfOk result (λ c. c ≡ record { plan = plan.now; cap = cap; done = start (plan_exchanges plan.now) }) }
+        ensures { IfOk result (λ c. c ≡ core_at_start plan.now cap) }
     {
         let ranks = plan.ranks();
         Ok(Core {
@@ -89,7 +89,7 @@ impl<'a> Core<'a> {
     pub fn advance(&mut self, rank: Rank) -> Advance
         requires { rank < length self.old.plan.programs }
         ensures moved { (result ≡ Advance.Moved) ↔ CanGo self.old rank }
-        ensures done { (result ≡ Advance.Done) ↔ (get_or self.old.done rank 0 ≡ length (of_rank (all_of self.old) rank)) }
+        ensures done { (result ≡ Advance.Done) ↔ HasFinished self.old rank }
         ensures after { result ≡ Advance.Moved → self.new ≡ gone self.old rank }
         ensures same { result ≢ Advance.Moved → self.new ≡ self.old }
     {
@@ -140,7 +140,7 @@ impl<'a> Core<'a> {
         requires peer { exchange.now.peer < length self.old.plan.programs }
         requires due { due (all_of self.old) self.old.done rank ≡ Some exchange.now }
         requires next { get_or self.old.done rank 0 + 1 < 2 ^ 32 }
-        ensures moved { (result ≡ Advance.Moved) ↔ CanSwap (all_of self.old) self.old.cap self.old.done rank exchange.now.kind exchange.now.peer }
+        ensures moved { (result ≡ Advance.Moved) ↔ CanMake self.old rank exchange.now.kind exchange.now.peer }
         ensures left { result ≢ Advance.Done }
         ensures after { result ≡ Advance.Moved → self.new ≡ gone self.old rank }
         ensures same { result ≢ Advance.Moved → self.new ≡ self.old }
@@ -158,7 +158,7 @@ impl<'a> Core<'a> {
         requires peer { exchange.now.peer < length self.old.plan.programs }
         requires due { due (all_of self.old) self.old.done rank ≡ Some exchange.now }
         requires next { get_or self.old.done rank 0 + 1 < 2 ^ 32 }
-        requires free { CanSwap (all_of self.old) self.old.cap self.old.done rank exchange.now.kind exchange.now.peer }
+        requires free { CanMake self.old rank exchange.now.kind exchange.now.peer }
         ensures { self.new ≡ gone self.old rank }
     {
         match exchange.kind {
@@ -188,7 +188,7 @@ impl<'a> Core<'a> {
     fn can_swap(&self, rank: Rank, exchange: &Exchange) -> bool
         requires rank { rank < length self.now.plan.programs }
         requires peer { exchange.now.peer < length self.now.plan.programs }
-        ensures { IsTrue result ↔ CanSwap (all_of self.now) self.now.cap self.now.done rank exchange.now.kind exchange.now.peer }
+        ensures { IsTrue result ↔ CanMake self.now rank exchange.now.kind exchange.now.peer }
     {
         match exchange.kind {
             Kind::Send => self.waiting(rank, exchange.peer) < self.cap,
@@ -200,7 +200,7 @@ impl<'a> Core<'a> {
     fn waiting(&self, from: Rank, to: Rank) -> u32
         requires from { from < length self.now.plan.programs }
         requires to { to < length self.now.plan.programs }
-        ensures { sent (all_of self.now) self.now.done from to ≡ taken (all_of self.now) self.now.done from to + result }
+        ensures { AreWaiting self.now from to result }
     {
         self.sent.get(from, to) - self.taken.get(from, to)
     }

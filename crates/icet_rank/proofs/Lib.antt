@@ -1,8 +1,7 @@
-pub mod After
 pub mod AnyDisplay
-pub mod Keeps
-pub mod Local
-pub mod Now
-pub mod OnOk
+pub mod BehindWork
+pub mod FirstRun
+pub mod LocalWork
+pub mod MachineMoves
 pub mod PortMoves
-pub mod Start
+pub mod RunsOn

@@ -1,4 +1,5 @@
 pub mod Fits
 pub mod Machine
 pub mod Moves
+pub mod Slots
 pub mod Steps

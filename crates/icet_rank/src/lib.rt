@@ -3,9 +3,10 @@
 
 pub mod image;
 pub mod machine;
-mod moves;
+mod ports;
+mod sending;
 mod slots;
-mod sync;
 
 pub use image::Image;
 pub use machine::{Parts, RankMachine, Step, sync_pair};
+pub use ports::{Inboxes, Outboxes};

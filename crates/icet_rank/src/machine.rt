@@ -2,17 +2,16 @@ ghost use Rattle.std.specs.Prelude.{◌≡◌, ◌≤◌, ◌<◌, ◌+◌, ◌+
 ghost use Rattle.std.specs.Option.{ForSome};
 ghost use Rattle.icet_model.specs.Exchange.{exchanges, of_op};
 ghost use Rattle.icet_model.specs.Run.{put, message_of};
-ghost use Rattle.icet_model.specs.Ports.{at_list, by_peer};
-ghost use Rattle.icet_model.specs.Wires.{AreSynced};
+ghost use Rattle.icet_model.specs.Ports.{at_list, port_views};
 ghost use Rattle.icet_rank.specs.Fits.{IsFilled};
 ghost use Rattle.icet_rank.specs.Moves.{Carried, CarriedOne, Missed, Met, ArePaired};
-ghost use Rattle.icet_rank.specs.Machine.{Names, IsReady, IsDone, IsRunning, IsReadyToRun};
-ghost use Rattle.icet_rank.specs.Steps.{SameJob, SamePairings, Worked, Carries, Misses, IsKnownReady, Moves, Pends, Ends};
+ghost use Rattle.icet_rank.specs.Machine.{Names, IsReady, IsDone, IsRunning, IsReadyToRun, IsAtStart, parts_of};
+ghost use Rattle.icet_rank.specs.Steps.{AreInSync, CanSync, SendsItsSlot, CarriesSlot, SameJob, SamePairings, Worked, Carries, Misses, IsKnownReady, Moves, Pends, Ends};
 
 use crate::image::Image;
-use crate::moves::{place_of, send, take_at};
+use crate::ports::{Inboxes, Outboxes, sync_ports};
+use crate::sending::send;
 use crate::slots::{cut_slot, empty_slots, fitting, joined, put_joined, slots_of};
-use crate::sync::sync_ports;
 use icet_base::{Mode, NoMemory, Rank};
 use icet_plan::{Exchange, Kind, Op, Program};
 use icet_ring::{Inbox, Outbox, Wires};
@@ -44,18 +43,18 @@ pub struct RankMachine<I: Inbox, O: Outbox> {
     images: Image,
     slots: Vec<Option<Sparse>>,
     kept: Vec<Sparse>,
-    inboxes: Vec<(Rank, I)>,
-    outboxes: Vec<(Rank, O)>,
+    inboxes: Inboxes<I>,
+    outboxes: Outboxes<O>,
 }
 
 impl<I: Inbox, O: Outbox> Model for RankMachine<I, O> {
     ghost use Rattle.icet_rank.specs.Machine.{MachineView, IsRunning};
 
-    ghost Value = { MachineView I O };
+    ghost Value = { MachineView };
 
-    ghost view = { λ m. record { number = m.number; mode = m.mode; ops = m.program; place = m.place; counter = m.counter; images = m.images; slots = m.slots.items; kept = m.kept.items; inboxes = m.inboxes.items; outboxes = m.outboxes.items } };
+    ghost view = { λ m. record { number = m.number; mode = m.mode; ops = m.program; place = m.place; counter = m.counter; images = m.images; slots = m.slots.items; kept = m.kept.items; inboxes = m.inboxes; outboxes = m.outboxes } };
 
-    ghost invariant = { λ m. IsRunning I.taken I.room O.sent O.room (record { number = m.number; mode = m.mode; ops = m.program; place = m.place; counter = m.counter; images = m.images; slots = m.slots.items; kept = m.kept.items; inboxes = m.inboxes.items; outboxes = m.outboxes.items }) };
+    ghost invariant = { λ m. IsRunning (record { number = m.number; mode = m.mode; ops = m.program; place = m.place; counter = m.counter; images = m.images; slots = m.slots.items; kept = m.kept.items; inboxes = m.inboxes; outboxes = m.outboxes }) };
 }
 
 /// What a machine hands out when it is done.
@@ -67,6 +66,15 @@ pub struct Parts<I: Inbox, O: Outbox> {
     pub inboxes: Vec<(Rank, I)>,
     /// The outboxes, ascending by peer.
     pub outboxes: Vec<(Rank, O)>,
+}
+
+impl<I: Inbox, O: Outbox> Model for Parts<I, O> {
+    ghost use Rattle.icet_model.specs.Ports.{port_views};
+    ghost use Rattle.icet_rank.specs.Machine.{PartsView};
+
+    ghost Value = { PartsView };
+
+    ghost view = { λ p. record { kept = p.kept.items; inboxes = port_views I.port p.inboxes.items; outboxes = port_views O.port p.outboxes.items } };
 }
 
 impl<I: Inbox, O: Outbox> RankMachine<I, O> {
@@ -83,8 +91,8 @@ impl<I: Inbox, O: Outbox> RankMachine<I, O> {
         inboxes: Vec<(Rank, I)>,
         outboxes: Vec<(Rank, O)>,
     ) -> Result<RankMachine<I, O>, NoMemory>
-        requires { IsReadyToRun I.taken I.room O.sent O.room number mode program images inboxes.items outboxes.items }
-        ensures { IfOk result (λ m. m ≡ record { number = number; mode = mode; ops = program; place = 0; counter = 0; images = images; slots = m.slots; kept = []; inboxes = inboxes.items; outboxes = outboxes.items }) }
+        requires { IsReadyToRun number mode program images (port_views I.port inboxes.items) (port_views O.port outboxes.items) }
+        ensures { IfOk result (λ m. IsAtStart number mode program images (port_views I.port inboxes.items) (port_views O.port outboxes.items) m) }
     {
         let slots = empty_slots(alloc, slots_of(&program))?;
         Ok(RankMachine {
@@ -97,15 +105,15 @@ impl<I: Inbox, O: Outbox> RankMachine<I, O> {
             images,
             slots,
             kept: Vec::new(alloc),
-            inboxes,
-            outboxes,
+            inboxes: Inboxes::of(inboxes),
+            outboxes: Outboxes::of(outboxes),
         })
     }
 
     /// The rank that this machine is.
     pub fn number(&self) -> Rank
         ensures number { result ≡ self.now.number }
-        ensures running { IsRunning I.taken I.room O.sent O.room self.now }
+        ensures running { IsRunning self.now }
     {
         self.number
     }
@@ -113,7 +121,7 @@ impl<I: Inbox, O: Outbox> RankMachine<I, O> {
     /// How many exchanges were done.
     pub fn counter(&self) -> u32
         ensures counter { result ≡ self.now.counter }
-        ensures running { IsRunning I.taken I.room O.sent O.room self.now }
+        ensures running { IsRunning self.now }
     {
         self.counter
     }
@@ -136,12 +144,12 @@ impl<I: Inbox, O: Outbox> RankMachine<I, O> {
     /// and not there, a later step goes on from where this one came to.
     pub fn step(&mut self) -> Result<Step, NoMemory>
         ensures job { SameJob self.old self.new }
-        ensures pairings { SamePairings I.pairing O.pairing self.old self.new }
-        ensures moved { IfOk result (λ s. s ≡ Step.Moved → Moves I.taken I.room I.known I.misses I.pairing O.sent O.room O.free_known O.misses O.pairing self.old self.new) }
-        ensures pending { IfOk result (λ s. s ≡ Step.Pending → Pends I.taken I.room I.known I.misses I.pairing O.sent O.room O.free_known O.misses O.pairing self.old self.new) }
+        ensures pairings { SamePairings self.old self.new }
+        ensures moved { IfOk result (λ s. s ≡ Step.Moved → Moves self.old self.new) }
+        ensures pending { IfOk result (λ s. s ≡ Step.Pending → Pends self.old self.new) }
         ensures done { IfOk result (λ s. s ≡ Step.Done → Ends self.old self.new) }
         ensures none_left { self.old.counter ≡ length (exchanges self.old.ops) → IfOk result (λ s. s ≡ Step.Done) }
-        ensures known { IsKnownReady I.taken I.room I.known I.misses I.pairing O.sent O.room O.free_known O.misses O.pairing self.old → IfOk result (λ s. s ≡ Step.Moved) }
+        ensures known { IsKnownReady self.old → IfOk result (λ s. s ≡ Step.Moved) }
         ensures no_memory { OnErr result (Worked self.old self.new) }
         ensures ready { IsReady self.old → IsOk result }
     {
@@ -165,11 +173,11 @@ impl<I: Inbox, O: Outbox> RankMachine<I, O> {
     fn swap_next(&mut self) -> Step
         requires { IsReady self.old }
         ensures job { SameJob self.old self.new }
-        ensures pairings { SamePairings I.pairing O.pairing self.old self.new }
-        ensures moved { result ≡ Step.Moved → Moves I.taken I.room I.known I.misses I.pairing O.sent O.room O.free_known O.misses O.pairing self.old self.new }
-        ensures pending { result ≡ Step.Pending → Pends I.taken I.room I.known I.misses I.pairing O.sent O.room O.free_known O.misses O.pairing self.old self.new }
+        ensures pairings { SamePairings self.old self.new }
+        ensures moved { result ≡ Step.Moved → Moves self.old self.new }
+        ensures pending { result ≡ Step.Pending → Pends self.old self.new }
         ensures done { result ≡ Step.Done → Ends self.old self.new }
-        ensures known { IsKnownReady I.taken I.room I.known I.misses I.pairing O.sent O.room O.free_known O.misses O.pairing self.old → result ≡ Step.Moved }
+        ensures known { IsKnownReady self.old → result ≡ Step.Moved }
     {
         match self.next_op() {
             None => Step::Done,
@@ -185,7 +193,7 @@ impl<I: Inbox, O: Outbox> RankMachine<I, O> {
         ensures within { OnSome result (self.now.place < length self.now.ops) }
         ensures named { IfSome result (λ op. Names (length self.now.slots) op) }
         ensures all { result ≡ None → self.now.counter ≡ length (exchanges self.now.ops) }
-        ensures running { IsRunning I.taken I.room O.sent O.room self.now }
+        ensures running { IsRunning self.now }
     {
         if self.place < self.program.len() {
             Some(self.program.op(self.place))
@@ -319,12 +327,12 @@ impl<I: Inbox, O: Outbox> RankMachine<I, O> {
     fn swap(&mut self, exchange: Exchange, slot: u32) -> Step
         requires due { slice_get self.old.ops self.old.place ≡ Some (Op.Swap exchange slot) }
         ensures job { SameJob self.old self.new }
-        ensures pairings { SamePairings I.pairing O.pairing self.old self.new }
+        ensures pairings { SamePairings self.old self.new }
         ensures due { slice_get (exchanges self.old.ops) self.old.counter ≡ Some exchange }
-        ensures moved { result ≡ Step.Moved → Carries I.taken I.room I.known I.misses I.pairing O.sent O.room O.free_known O.misses O.pairing exchange.kind exchange (at_list self.old.slots slot) self.old self.new }
+        ensures moved { result ≡ Step.Moved → CarriesSlot exchange slot self.old self.new }
         ensures counted { result ≡ Step.Moved → self.new.counter ≡ self.old.counter + 1 }
         ensures placed { result ≡ Step.Moved → self.new.place ≡ self.old.place + 1 }
-        ensures pending { result ≡ Step.Pending → Misses I.taken I.room I.known I.misses I.pairing O.sent O.room O.free_known O.misses O.pairing exchange.kind exchange self.old self.new }
+        ensures pending { result ≡ Step.Pending → Misses exchange.kind exchange self.old self.new }
         ensures same_counter { result ≡ Step.Pending → self.new.counter ≡ self.old.counter }
         ensures same_place { result ≡ Step.Pending → self.new.place ≡ self.old.place }
         ensures same_slots { result ≡ Step.Pending → self.new.slots ≡ self.old.slots }
@@ -343,22 +351,20 @@ impl<I: Inbox, O: Outbox> RankMachine<I, O> {
         ensures due { slice_get (exchanges self.old.ops) self.old.counter ≡ Some exchange }
         ensures filled { IsFilled (at_list self.old.slots slot) }
         ensures job { SameJob self.old self.new }
-        ensures pairings { SamePairings I.pairing O.pairing self.old self.new }
+        ensures pairings { SamePairings self.old self.new }
         ensures inboxes { self.new.inboxes ≡ self.old.inboxes }
-        ensures moved { result ≡ true → ForSome (at_list self.old.slots slot) (λ p. Carried O.sent O.room O.free_known O.misses O.pairing exchange.peer (message_of exchange self.old.number p) self.old.outboxes self.new.outboxes) }
+        ensures moved { result ≡ true → SendsItsSlot exchange slot self.old self.new }
         ensures place { result ≡ true → self.new.place ≡ self.old.place + 1 }
         ensures counter { result ≡ true → self.new.counter ≡ self.old.counter + 1 }
-        ensures missed { result ≡ false → Missed O.sent O.room O.free_known O.misses O.pairing exchange.peer self.old.outboxes self.new.outboxes }
+        ensures missed { result ≡ false → Missed exchange.peer self.old.outboxes self.new.outboxes }
         ensures same_place { result ≡ false → self.new.place ≡ self.old.place }
         ensures same_counter { result ≡ false → self.new.counter ≡ self.old.counter }
         ensures same_slots { result ≡ false → self.new.slots ≡ self.old.slots }
     {
-        let at = place_of(&self.outboxes, exchange.peer);
         let moved = send(
             self.number,
             exchange,
             slot as usize,
-            at,
             &mut self.slots,
             &mut self.outboxes,
         );
@@ -376,18 +382,17 @@ impl<I: Inbox, O: Outbox> RankMachine<I, O> {
         requires kind { exchange.kind ≡ Kind.Take }
         ensures due { slice_get (exchanges self.old.ops) self.old.counter ≡ Some exchange }
         ensures job { SameJob self.old self.new }
-        ensures pairings { SamePairings I.pairing O.pairing self.old self.new }
+        ensures pairings { SamePairings self.old self.new }
         ensures outboxes { self.new.outboxes ≡ self.old.outboxes }
-        ensures moved { result ≡ true → CarriedOne I.taken I.room I.known I.misses I.pairing exchange.peer self.old.inboxes self.new.inboxes }
+        ensures moved { result ≡ true → CarriedOne exchange.peer self.old.inboxes self.new.inboxes }
         ensures place { result ≡ true → self.new.place ≡ self.old.place + 1 }
         ensures counter { result ≡ true → self.new.counter ≡ self.old.counter + 1 }
-        ensures missed { result ≡ false → Missed I.taken I.room I.known I.misses I.pairing exchange.peer self.old.inboxes self.new.inboxes }
+        ensures missed { result ≡ false → Missed exchange.peer self.old.inboxes self.new.inboxes }
         ensures same_place { result ≡ false → self.new.place ≡ self.old.place }
         ensures same_counter { result ≡ false → self.new.counter ≡ self.old.counter }
         ensures same_slots { result ≡ false → self.new.slots ≡ self.old.slots }
     {
-        let at = place_of(&self.inboxes, exchange.peer);
-        match take_at(&mut self.inboxes, at, exchange.peer) {
+        match self.inboxes.take(exchange.peer) {
             None => false,
             Some(message) => {
                 self.slots[slot as usize] = Some(fitting(self.alloc, exchange, message));
@@ -401,15 +406,13 @@ impl<I: Inbox, O: Outbox> RankMachine<I, O> {
     /// Hands out the kept pieces and the ports, as they were. Condition: the machine is done.
     pub fn into_parts(self) -> Parts<I, O>
         requires { IsDone self }
-        ensures kept { result.kept.items ≡ self.kept }
-        ensures inboxes { result.inboxes.items ≡ self.inboxes }
-        ensures outboxes { result.outboxes.items ≡ self.outboxes }
-        ensures running { IsRunning I.taken I.room O.sent O.room self }
+        ensures parts { result ≡ parts_of self }
+        ensures running { IsRunning self }
     {
         Parts {
             kept: self.kept,
-            inboxes: self.inboxes,
-            outboxes: self.outboxes,
+            inboxes: self.inboxes.into_ports(),
+            outboxes: self.outboxes.into_ports(),
         }
     }
 }
@@ -423,26 +426,22 @@ pub fn sync_pair<W: Wires>(
     receiver: &mut RankMachine<W::In, W::Out>,
     cap: u32,
 ) -> Result<(), NoMemory>
-    requires { ArePaired W.Out.pairing W.In.pairing sender.old.number receiver.old.number cap sender.old.outboxes receiver.old.inboxes }
+    requires { CanSync cap sender.old receiver.old }
     ensures sender { sender.new ≡ record sender.old { outboxes = sender.new.outboxes } }
     ensures receiver { receiver.new ≡ record receiver.old { inboxes = receiver.new.inboxes } }
-    ensures out { Met W.Out.sent W.Out.room W.Out.pairing receiver.old.number sender.old.outboxes sender.new.outboxes }
-    ensures inbox { Met W.In.taken W.In.room W.In.pairing sender.old.number receiver.old.inboxes receiver.new.inboxes }
-    ensures paired { ArePaired W.Out.pairing W.In.pairing sender.old.number receiver.old.number cap sender.new.outboxes receiver.new.inboxes }
-    ensures synced { OnOk result (AreSynced (by_peer W.Out.sent [] sender.new.outboxes receiver.old.number) (by_peer W.In.taken [] receiver.new.inboxes sender.old.number) cap (by_peer W.Out.free_known 0 sender.new.outboxes receiver.old.number) (by_peer W.In.known 0 receiver.new.inboxes sender.old.number)) }
+    ensures out { Met receiver.old.number sender.old.outboxes sender.new.outboxes }
+    ensures inbox { Met sender.old.number receiver.old.inboxes receiver.new.inboxes }
+    ensures pair { ArePaired sender.old.number receiver.old.number cap sender.new.outboxes receiver.new.inboxes }
+    ensures synced { OnOk result (AreInSync cap sender.new receiver.new) }
     ensures owed { W.owed wires.new ≡ W.owed wires.old }
     ensures log { W.log wires.new ≡ W.log wires.old }
 {
-    let from = place_of(&sender.outboxes, receiver.number);
-    let to = place_of(&receiver.inboxes, sender.number);
     sync_ports(
         wires,
         sender.number,
         receiver.number,
         cap,
         &mut sender.outboxes,
-        from,
         &mut receiver.inboxes,
-        to,
     )
 }

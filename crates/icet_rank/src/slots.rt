@@ -6,7 +6,8 @@ ghost use Rattle.icet_model.specs.Pixel.{Pixel};
 ghost use Rattle.icet_model.specs.Run.{Piece, put, lower, upper, cut_slots, joined_piece, received};
 ghost use Rattle.icet_model.specs.Ports.{at_list};
 ghost use Rattle.icet_model.specs.Fit.{FitsCut, FitsJoin, shape_of};
-ghost use Rattle.icet_rank.specs.Machine.{Names, carrier_of};
+ghost use Rattle.icet_rank.specs.Machine.{Names};
+ghost use Rattle.icet_rank.specs.Slots.{CanJoin, IsJoinOf, IsCutInto, CutsSlot, IsReceived};
 
 use icet_base::{Mode, NoMemory};
 use icet_merge::merge;
@@ -15,9 +16,10 @@ use icet_ring::Message;
 use icet_sparse::Sparse;
 use std::alloc::Global;
 
-/// A number above each slot that the operation names.
+/// The least number above each slot that the operation names.
 fn named_by(op: Op) -> usize
-    ensures { Names result op }
+    ensures named { Names result op }
+    ensures least { (n : ℕ) → Names n op → result ≤ n }
 {
     match op {
         Op::Load { tile: _, slot } => slot as usize + 1,
@@ -29,9 +31,10 @@ fn named_by(op: Op) -> usize
     }
 }
 
-/// How many slots the program needs.
+/// How many slots the program needs, and no more.
 pub fn slots_of(program: &Program) -> usize
     ensures named { AllByRecursion (Names result) program.now }
+    ensures least { (n : ℕ) → AllByRecursion (Names n) program.now → result ≤ n }
     ensures short { length program.now < 2 ^ 32 }
 {
     let mut most = 0;
@@ -64,8 +67,8 @@ pub fn joined(
 ) -> Result<Sparse, NoMemory>
     requires front { front < length slots.now }
     requires back { back < length slots.now }
-    requires fits { FitsJoin (option_map shape_of (at_list slots.now front)) (option_map shape_of (at_list slots.now back)) }
-    ensures { IfOk result (λ p. ForSome (at_list slots.now front) (λ f. ForSome (at_list slots.now back) (λ b. (images : List (Piece (List Pixel))) → p ≡ joined_piece (carrier_of mode images) f b))) }
+    requires fits { CanJoin slots.now front back }
+    ensures { IfOk result (IsJoinOf mode slots.now front back) }
 {
     match (&slots[front], &slots[back]) {
         (Some(first), Some(second)) => merge(alloc, mode, first, second),
@@ -95,7 +98,7 @@ pub fn put_joined(
 /// Cuts a slot's piece: the slot keeps what is below `at`, and the rest is handed out.
 fn cut_piece(alloc: Global, slot: &mut Option<Sparse>, at: u32) -> Result<Sparse, NoMemory>
     requires { FitsCut at (option_map shape_of slot.old) }
-    ensures ok { IfOk result (λ u. ForSome slot.old (λ p. (mode : Mode) (images : List (Piece (List Pixel))) → (slot.new ≡ Some (lower (carrier_of mode images) at p)) × (u ≡ upper (carrier_of mode images) at p))) }
+    ensures ok { IfOk result (IsCutInto at slot.old slot.new) }
     ensures err { OnErr result (slot.new ≡ slot.old) }
 {
     match slot {
@@ -116,7 +119,7 @@ pub fn cut_slot(
     requires slot { slot < length slots.old }
     requires into { into < length slots.old }
     requires fits { FitsCut at (option_map shape_of (at_list slots.old slot)) }
-    ensures ok { OnOk result ((mode : Mode) (images : List (Piece (List Pixel))) → at_list slots.new ≡ cut_slots (carrier_of mode images) slot at into (at_list slots.old slot) (at_list slots.old)) }
+    ensures ok { OnOk result (CutsSlot slot at into slots.old slots.new) }
     ensures err { OnErr result (slots.new ≡ slots.old) }
     ensures length { length slots.new ≡ length slots.old }
 {
@@ -128,7 +131,7 @@ pub fn cut_slot(
 /// The message's piece where it fits the exchange, and a blank one of the exchange's range otherwise.
 pub fn fitting(alloc: Global, exchange: Exchange, message: Message) -> Sparse
     requires { exchange.lo ≤ exchange.hi }
-    ensures { (mode : Mode) (images : List (Piece (List Pixel))) → result ≡ received (carrier_of mode images) exchange (Some message) }
+    ensures { IsReceived exchange message result }
 {
     let piece = message.piece;
     if piece.tile() == exchange.tile && (piece.lo() == exchange.lo && piece.hi() == exchange.hi) {

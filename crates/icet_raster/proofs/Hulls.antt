@@ -5,11 +5,11 @@ use Rattle.std.specs.Int.{int_gap, int_max, int_min}
 use Rattle.std.proofs.lemmas.Int.{ints, clamps}
 use Rattle.std.proofs.lemmas.List.Elements.{All-nil, All-cons, All-head, All-tail}
 use Rattle.icet_model.specs.declared.names.Rect.{Rect}
-use Rattle.icet_model.specs.Boxes.{right_of, bottom_of, hull, hull_of, bounds, box, HoldsBox}
-use Rattle.icet_model.specs.Raster.{Drawing}
+use Rattle.icet_scene_model.specs.Boxes.{right_of, bottom_of, hull, hull_of, bounds, box, HoldsBox}
+use Rattle.icet_scene_model.specs.Raster.{Drawing}
 
 -- a range that begins no later than it ends, by its length
-end_is : (a b : ℤ) → a ≤ℤ b → a +ℤ pos (int_gap a b) ≡ b
+pub end_is : (a b : ℤ) → a ≤ℤ b → a +ℤ pos (int_gap a b) ≡ b
 end_is (pos a) (pos b) h = omega (arith, ints)
 end_is (pos a) (negsuc b) h = omega (arith, ints)
 end_is (negsuc a) (pos b) h = omega (arith, ints)

@@ -1,3 +1,11 @@
+pub mod CornerWeights
+pub mod CoveredInFrame
+pub mod CoveredOnce
+pub mod EdgeSteps
+pub mod EdgeValues
 pub mod FullImages
 pub mod Hulls
 pub mod Outside
+pub mod SignCases
+pub mod SignedProducts
+pub mod StretchesDrawn

@@ -1,19 +1,23 @@
 -- Where a fragment is drawn the box has the pixel, so nothing is drawn outside the box.
-use Rattle.std.proofs.Common.{◌≡◌, ℕ, ◌+◌, ◌*◌, ◌/◌, ◌%◌, ◌<◌, ℤ, pos, true, false, List, [], ◌∷◌, replicate, refl, sym, ap, ◌∙◌, subst, arith, Option, Some, None}
-use Rattle.std.specs.Prelude.{fold}
+use Rattle.std.proofs.Common.{◌≡◌, ℕ, ◌+◌, ◌-◌, ◌*◌, ◌/◌, ◌%◌, ◌<◌, ◌≤◌, ◌&&◌, length, ℤ, pos, Bool, cond, true, false, List, [], ◌∷◌, replicate, refl, sym, ap, ◌∙◌, subst, arith, Option, Some, None}
+use Rattle.std.specs.Prelude.{fold, slice_get, ◌==◌, nat_le}
 use Rattle.std.proofs.Math.Nat.{mul-le-mul_left}
 use Rattle.std.proofs.lemmas.Int.{ints, clamps}
 use Rattle.std.proofs.lemmas.Bool.Decides.{nat_tests}
+use Rattle.std.proofs.lemmas.Option.{slice_get_within}
 use Rattle.icet_model.specs.declared.names.Mode.{Mode}
-use Rattle.icet_model.specs.declared.names.Mode.TheVariants.{Depth}
+use Rattle.icet_model.specs.declared.names.Mode.TheVariants.{Depth, Blend, WideBlend}
 use Rattle.icet_model.specs.declared.names.Rect.{Rect}
-use Rattle.icet_model.specs.Pixel.{FragmentView, Pixel}
-use Rattle.icet_model.specs.Raster.{Drawing, Point, Area, gives, drawn_over, drawn, full_image}
-use Rattle.icet_model.specs.Boxes.{HasPixel, hull, hull_of, bounds, box, rect_of, reaches_into}
+use Rattle.icet_model.specs.Pixel.{FragmentView, Pixel, joined}
+use Rattle.icet_scene_model.specs.Triangles.{centre, covers, shaded}
+use Rattle.icet_raster.proofs.CoveredInFrame.{covered_in_box}
+use Rattle.icet_scene_model.specs.Raster.{Drawing, Point, Tri, Span, visible, gives, drawn_over, drawn, full_image}
+use Rattle.icet_model.specs.Tiles.{Area}
+use Rattle.icet_scene_model.specs.Boxes.{HasPixel, hull, hull_of, bounds, box, rect_of, reaches_into}
 use Rattle.icet_raster.specs.Boxes.{CoversPixel}
 use Rattle.icet_raster.proofs.Hulls.{box_from, right-hull, bottom-hull}
 use Rattle.icet_raster.proofs.FullImages.{map_same, blanks, wide}
-use Rattle.icet_model.proofs.Overlaps.{pixel_meets}
+use Rattle.icet_scene_model.proofs.Overlaps.{pixel_meets}
 
 -- the hull has the pixels of both
 hull_left : (one other : Rect) (x y : ℤ) → HasPixel one x y → HasPixel (hull one other) x y
@@ -42,6 +46,15 @@ covers_right (Some one) (Some other) x y c = record { rect = hull one other; box
 point_gives : (px py x y : ℕ) (paint fragment : FragmentView) → gives (Point px py paint) x y ≡ Some fragment → (px ≡ x) × (py ≡ y)
 point_gives px py x y paint fragment e = (grind (arith, nat_tests), grind (arith, nat_tests))
 
+-- a span gives something in its row alone, from its first column up to its last
+pub span_gives : (px py x y : ℕ) (paints : List FragmentView) (fragment : FragmentView) → gives (Span px py paints) x y ≡ Some fragment → (py ≡ y) × (px ≤ x) × (x < px + length paints)
+span_gives px py x y paints fragment e = go (py == y) (nat_le px x) refl refl e
+  where
+    go : (a b : Bool) → (py == y) ≡ a → nat_le px x ≡ b → cond (a && b) (slice_get paints (x - px)) None ≡ Some fragment → (py ≡ y) × (px ≤ x) × (x < px + length paints)
+    go true true p q h = let first : px ≤ x = grind (arith, nat_tests, q) in let l = slice_get_within paints (x - px) fragment h in (grind (arith, nat_tests, p), first, omega arith)
+    go true false p q h = absurd (cc)
+    go false b p q h = absurd (cc)
+
 gives_in_bounds : (shape : Drawing) (x y : ℕ) (fragment : FragmentView) → gives shape x y ≡ Some fragment → CoversPixel (bounds shape) x y
 gives_in_bounds (Point px py paint) x y fragment e =
     let at = point_gives px py x y paint fragment e in
@@ -52,10 +65,41 @@ gives_in_bounds (Point px py paint) x y fragment e =
       box_is = refl;
       pixel = record { left = omega (arith, ints); right = omega (arith, ints); top = omega (arith, ints); bottom = omega (arith, ints) };
     }
+gives_in_bounds (Tri t) x y fragment e = covered_in_box t x y (covered_if (covers t (centre x y)) (shaded t (centre x y)) fragment e)
+  where
+    covered_if : (b : Bool) (f g : FragmentView) → cond b (Some f) None ≡ Some g → b ≡ true
+    covered_if true f g e = refl
+    covered_if false f g e = absurd (cc)
+gives_in_bounds (Span px py paints) x y fragment e =
+    let at = span_gives px py x y paints fragment e in
+    let row = at.0 in
+    let first = at.1 in
+    let last = at.2 in
+    record {
+      rect = record { x = pos px; y = pos py; w = length paints; h = 1 };
+      box_is = refl;
+      pixel = record { left = omega (arith, ints); right = omega (arith, ints); top = omega (arith, ints); bottom = omega (arith, ints) };
+    }
+
+seen : (p : Pixel) (f : FragmentView) → visible p ≡ Some f → p ≡ Some f
+seen None f e = e
+seen (Some g) f e = go (g.a == 0) e
+  where
+    go : (b : Bool) → cond b None (Some g) ≡ Some f → Some g ≡ Some f
+    go true e = absurd (cc)
+    go false e = e
+
+-- a joined pixel is there where the front or the back is
+module _ (mode : Mode) (start : Option Rect) (shape : Drawing) (x y : ℕ) where
+  blended_covers : (front before : Pixel) (fragment : FragmentView) → ((f : FragmentView) → front ≡ Some f → CoversPixel (bounds shape) x y) → ((f : FragmentView) → before ≡ Some f → CoversPixel start x y) → joined mode front before ≡ Some fragment → CoversPixel (hull_of start (bounds shape)) x y
+  blended_covers None before fragment g h e = covers_left start (bounds shape) x y (h fragment e)
+  blended_covers (Some f) before fragment g h e = covers_right start (bounds shape) x y (g f refl)
 
 over_covers : (mode : Mode) (before : Pixel) (shape : Drawing) (start : Option Rect) (x y : ℕ) (fragment : FragmentView) → ((f : FragmentView) → before ≡ Some f → CoversPixel start x y) → drawn_over mode before (gives shape x y) ≡ Some fragment → CoversPixel (hull_of start (bounds shape)) x y
 over_covers Depth (Some f) shape start x y fragment h e = covers_left start (bounds shape) x y (h f refl)
 over_covers Depth None shape start x y fragment h e = covers_right start (bounds shape) x y (gives_in_bounds shape x y fragment e)
+over_covers Blend before shape start x y fragment h e = blended_covers Blend start shape x y (visible (gives shape x y)) before fragment (λ f g. gives_in_bounds shape x y f (seen (gives shape x y) f g)) h e
+over_covers WideBlend before shape start x y fragment h e = blended_covers WideBlend start shape x y (visible (gives shape x y)) before fragment (λ f g. gives_in_bounds shape x y f (seen (gives shape x y) f g)) h e
 
 drawn_from : (mode : Mode) (shapes : List Drawing) (before : Pixel) (start : Option Rect) (x y : ℕ) (fragment : FragmentView) → ((f : FragmentView) → before ≡ Some f → CoversPixel start x y) → fold (λ p shape. drawn_over mode p (gives shape x y)) before shapes ≡ Some fragment → CoversPixel (box_from start shapes) x y
 drawn_from mode [] before start x y fragment h e = h fragment e

@@ -1,2 +1,7 @@
 pub mod Boxes
+pub mod Paints
 pub mod Shapes
+pub mod SharedEdge
+pub mod Stretches
+pub mod Triangles
+pub mod Walks

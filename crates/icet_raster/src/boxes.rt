@@ -1,17 +1,18 @@
 ghost use Rattle.std.specs.Prelude.{◌≡◌, ◌↔◌, ◌+ℤ◌, pos, All, IfSome, None, Some, map};
 ghost use Rattle.std.specs.Int.{int_gap, int_max, int_min};
 ghost use Rattle.std.specs.Option.{ForSome};
-ghost use Rattle.icet_model.specs.Boxes.{HoldsBox, bounds, box, hull, hull_of};
-ghost use Rattle.icet_model.specs.Tiles.{IsTileArea};
-ghost use Rattle.icet_raster.specs.Boxes.{IsSpan};
+ghost use Rattle.icet_scene_model.specs.Boxes.{HoldsBox, bounds, box, hull, hull_of};
+ghost use Rattle.icet_raster.specs.Boxes.{IsNear, IsSpan};
 ghost use Rattle.icet_raster.specs.Shapes.{drawing_of, IsInRange};
 
+use crate::frame::frame_of;
 use crate::shape::Shape;
 use icet_base::Rect;
 
 /// The box of the shapes: the least rectangle of pixels that holds the box of each, and None exactly
-/// where no shape has one. A point's box is the pixel that it stands on. Condition: the shapes'
-/// coordinates are in their ranges.
+/// where no shape has one. A point's box is the pixel that it stands on, a span's its part of the row; a
+/// triangle's goes from the pixel of the least corner to that of the greatest in each direction, and one
+/// of area 0 has none. Condition: the shapes' coordinates are in their ranges.
 pub fn box_of(shapes: &[Shape]) -> Option<Rect>
     requires { All IsInRange shapes.now }
     ensures value { result ≡ box (map drawing_of shapes.now) }
@@ -21,46 +22,56 @@ pub fn box_of(shapes: &[Shape]) -> Option<Rect>
 {
     let mut least = None;
     for shape in shapes {
-        least = Some(widened(least, bounds_of(shape)));
+        least = widened(least, bounds_of(shape));
     }
     least
 }
 
-/// The box of one shape.
-fn bounds_of(shape: &Shape) -> Rect
+/// The box of one shape, where it has one.
+fn bounds_of(shape: &Shape) -> Option<Rect>
     requires { IsInRange shape.now }
-    ensures bounds { bounds (drawing_of shape.now) ≡ Some result }
-    ensures area { IsTileArea result }
+    ensures bounds { result ≡ bounds (drawing_of shape.now) }
+    ensures near { ForSome result IsNear }
 {
     match shape {
-        Shape::Point { x, y, paint: _ } => Rect {
+        Shape::Point { x, y, paint: _ } => Some(Rect {
             x: *x,
             y: *y,
             w: 1,
             h: 1,
-        },
+        }),
+        Shape::Tri { corners } => frame_of(corners),
+        Shape::Span { x, y, paints } => Some(Rect {
+            x: *x,
+            y: *y,
+            w: paints.len(),
+            h: 1,
+        }),
     }
 }
 
-/// The least rectangle that holds `further` and, where it is there, `least`.
-fn widened(least: Option<Rect>, further: Rect) -> Rect
-    requires least { ForSome least IsTileArea }
-    requires further { IsTileArea further }
-    ensures hull { hull_of least (Some further) ≡ Some result }
-    ensures area { IsTileArea result }
+/// The least rectangle that holds both, where they are there.
+fn widened(least: Option<Rect>, further: Option<Rect>) -> Option<Rect>
+    requires least { ForSome least IsNear }
+    requires further { ForSome further IsNear }
+    ensures hull { result ≡ hull_of least further }
+    ensures near { ForSome result IsNear }
 {
     match least {
-        Some(least) => around(least, further),
         None => further,
+        Some(least) => match further {
+            None => Some(least),
+            Some(further) => Some(around(least, further)),
+        },
     }
 }
 
 /// The least rectangle that holds both.
 fn around(one: Rect, other: Rect) -> Rect
-    requires one { IsTileArea one }
-    requires other { IsTileArea other }
+    requires one { IsNear one }
+    requires other { IsNear other }
     ensures hull { result ≡ hull one other }
-    ensures area { IsTileArea result }
+    ensures near { IsNear result }
 {
     let (x, w) = span(one.x, one.w, other.x, other.w);
     let (y, h) = span(one.y, one.h, other.y, other.h);

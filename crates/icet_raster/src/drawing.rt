@@ -1,15 +1,24 @@
-ghost use Rattle.std.specs.Prelude.{◌≡◌, ◌∷◌, ◌++◌, ◌≤◌, ◌*◌, ℕ, [], List, IfOk, IfSome, None, All, map};
-ghost use Rattle.icet_model.specs.Raster.{Drawing, Point, full_image};
+ghost use Rattle.std.specs.Prelude.{◌≡◌, ◌∷◌, ◌++◌, [], List, IfOk, All, map};
+ghost use Rattle.icet_scene_model.specs.Raster.{Drawing, full_image};
 ghost use Rattle.icet_model.specs.Tiles.{area_of, IsTileArea, IsOnDisplay};
-ghost use Rattle.icet_raster.specs.Shapes.{drawing_of, IsInRange, IsPixelAt};
+ghost use Rattle.icet_raster.specs.Shapes.{drawing_of, IsInRange};
 
+use crate::filling::draw_triangle;
 use crate::shape::Shape;
+use crate::spans::draw_paints;
 use icet_base::{Mode, NoMemory, Rect};
-use icet_pixel::{Dense, Fragment, join};
+use icet_pixel::Dense;
 use std::alloc::Global;
 
 /// The shapes joined from the first to the last at each pixel of the area. By depth the earlier shape
-/// wins a tie. Condition: the area is one of a tile, and the shapes' coordinates are in their ranges.
+/// wins a tie. By blending the later shape is the front, and a fragment of alpha 0 is left out.
+/// Condition: the area is one of a tile, and the shapes' coordinates are in their ranges.
+///
+/// It takes time in proportion to the area and to the parts of the shapes' boxes that lie in it.
+///
+/// # Errors
+///
+/// `NoMemory` where the image finds no memory.
 pub fn draw(alloc: Global, shapes: &[Shape], mode: Mode, area: Rect) -> Result<Dense, NoMemory>
     requires area { IsTileArea area }
     requires shapes { All IsInRange shapes.now }
@@ -22,9 +31,10 @@ pub fn draw(alloc: Global, shapes: &[Shape], mode: Mode, area: Rect) -> Result<D
     Ok(image)
 }
 
-/// Joins one shape behind what was drawn before.
+/// Draws one shape over what was drawn before.
 fn draw_shape(image: &mut Dense, mode: Mode, area: Rect, shape: &Shape)
     requires area { IsOnDisplay (area_of area) }
+    requires shape { IsInRange shape.now }
     requires width { image.old.w ≡ area.w }
     requires height { image.old.h ≡ area.h }
     ensures width { image.new.w ≡ area.w }
@@ -33,42 +43,25 @@ fn draw_shape(image: &mut Dense, mode: Mode, area: Rect, shape: &Shape)
 {
     match shape {
         Shape::Point { x, y, paint } => {
-            draw_point(
+            draw_paints(
                 image,
                 mode,
                 area,
                 x.unsigned_abs(),
                 y.unsigned_abs(),
-                *paint,
+                &[*paint],
+            )
+        },
+        Shape::Tri { corners } => draw_triangle(image, mode, area, corners),
+        Shape::Span { x, y, paints } => {
+            draw_paints(
+                image,
+                mode,
+                area,
+                x.unsigned_abs(),
+                y.unsigned_abs(),
+                paints.as_slice(),
             )
         },
     }
-}
-
-fn draw_point(image: &mut Dense, mode: Mode, area: Rect, x: u32, y: u32, paint: Fragment)
-    requires area { IsOnDisplay (area_of area) }
-    requires width { image.old.w ≡ area.w }
-    requires height { image.old.h ≡ area.h }
-    ensures width { image.new.w ≡ area.w }
-    ensures height { image.new.h ≡ area.h }
-    ensures pixels { (before : List Drawing) → image.old.pixels ≡ full_image mode before (area_of area) → image.new.pixels ≡ full_image mode (before ++ Point x y paint ∷ []) (area_of area) }
-{
-    if let Some(at) = pixel_at(area, x, y) {
-        let pixel = join(mode, image.get(at), Some(paint));
-        image.set(at, pixel);
-    }
-}
-
-/// Which pixel of the area stands at these coordinates, where one does.
-fn pixel_at(area: Rect, x: u32, y: u32) -> Option<u32>
-    requires { IsOnDisplay (area_of area) }
-    ensures found { IfSome result (λ i. IsPixelAt (area_of area) i x y) }
-    ensures none { result ≡ None → (i : ℕ) → IsPixelAt (area_of area) i x y → ⊥ }
-{
-    let left = area.x.unsigned_abs();
-    let top = area.y.unsigned_abs();
-    if x < left || x - left >= area.w || y < top || y - top >= area.h {
-        return None;
-    }
-    Some((y - top) * area.w + (x - left))
 }

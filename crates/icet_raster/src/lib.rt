@@ -2,10 +2,22 @@
 #![tactic(auto)]
 
 pub mod boxes;
+mod cut;
 pub mod drawing;
+mod edge;
+mod filling;
+mod frame;
 pub mod laws;
+mod painting;
+pub mod paints;
+mod shading;
 pub mod shape;
+mod spans;
+pub mod triangles;
+mod walks;
 
 pub use boxes::box_of;
 pub use drawing::draw;
-pub use shape::Shape;
+pub use paints::Paints;
+pub use shape::{Shape, Vertex};
+pub use triangles::{covers, shade};

@@ -1,18 +1,9 @@
 -- The ports and the wires in memory.
-use Rattle.std.specs.Prelude.{◌≡◌, ℕ, ◌+◌, ◌-◌, ◌≤◌, List, [], length, take, drop}
+use Rattle.std.specs.Prelude.{◌≡◌, ℕ, ◌+◌, ◌-◌, ◌≤◌, List, [], length, take, drop, None}
 use Rattle.icet_model.specs.Pixel.{Pixel}
 use Rattle.icet_model.specs.Run.{MessageView}
 use Rattle.icet_model.specs.Traffic.{PairTraffic}
-use Rattle.icet_model.specs.Wires.{Pairing, IsSameOpening}
-
--- what contracts see of a port in memory: its messages so far, how many more it can carry, how many
--- are known to go through now, how often none went through, and the pairing
-pub record PortView : Type 0 where
-  pub messages : List (MessageView (List Pixel))
-  pub room : ℕ
-  pub known : ℕ
-  pub misses : ℕ
-  pub pairing : Pairing
+use Rattle.icet_model.specs.Wires.{PortView}
 
 -- a port of a new pair
 abbrev pub opened : ℕ → ℕ → ℕ → ℕ → ℕ → PortView
@@ -21,7 +12,7 @@ opened from to cap total known = record {
   room = total;
   known = known;
   misses = 0;
-  pairing = record { from = from; to = to; cap = cap; total = total; agreed = []; seen = 0 };
+  pairing = record { from = from; to = to; cap = cap; total = total; agreed = []; seen = 0; rings = None };
 }
 
 -- what contracts see of the wires in memory
@@ -36,7 +27,7 @@ outbox_view from to cap total sent carried seen misses = record {
   room = total - length sent;
   known = seen + cap - length sent;
   misses = misses;
-  pairing = record { from = from; to = to; cap = cap; total = total; agreed = take carried sent; seen = seen };
+  pairing = record { from = from; to = to; cap = cap; total = total; agreed = take carried sent; seen = seen; rings = None };
 }
 
 -- an outbox holds the memory for all its messages, and those behind the ones that its inbox is
@@ -55,7 +46,7 @@ inbox_view from to cap total carried ready taken seen misses = record {
   room = total - taken;
   known = length ready;
   misses = misses;
-  pairing = record { from = from; to = to; cap = cap; total = total; agreed = carried; seen = seen };
+  pairing = record { from = from; to = to; cap = cap; total = total; agreed = carried; seen = seen; rings = None };
 }
 
 -- an inbox holds a further copy of each message that was not taken, and the memory for all
@@ -66,12 +57,3 @@ pub record IsInbox (total taken seen memory queue_memory : ℕ) (carried ready :
   pub seen_behind : seen ≤ taken
   pub memory_kept : total ≤ memory
   pub queue_kept : total ≤ queue_memory
-
--- a meeting of two ports goes on: they are paired again, and have carried and taken what they had
-pub record MeetsOn (out out' inbox inbox' : PortView) : Type 0 where
-  pub paired : out'.pairing ≡ inbox'.pairing
-  pub opening : IsSameOpening out.pairing out'.pairing
-  pub sent : out'.messages ≡ out.messages
-  pub taken : inbox'.messages ≡ inbox.messages
-  pub out_room : out'.room ≡ out.room
-  pub in_room : inbox'.room ≡ inbox.room

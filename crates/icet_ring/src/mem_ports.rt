@@ -1,6 +1,6 @@
-ghost use Rattle.std.specs.Prelude.{◌≡◌, ◌≤◌, ◌<◌, ◌+◌, ◌-◌, ◌++◌, ◌∷◌, [], ◌↔◌, ℕ, List, IfOk, OnOk, IsTrue, length};
-ghost use Rattle.icet_model.specs.Wires.{IsSameOpening, AreSynced};
-ghost use Rattle.icet_ring.specs.Mem.{PortView, opened, MeetsOn};
+ghost use Rattle.std.specs.Prelude.{◌≡◌, ◌≤◌, ◌<◌, ◌+◌, ◌-◌, ◌++◌, ◌∷◌, [], ◌↔◌, ℕ, List, IfOk, IfErr, IfSome, IfNone, OnOk, OnErr, IsErr, IsNone, IsTrue, length};
+ghost use Rattle.icet_model.specs.Wires.{PairMet, PortCarries, PortMisses, PortsAreSynced};
+ghost use Rattle.icet_ring.specs.Mem.{opened};
 
 use crate::message::Message;
 use crate::ports::{Inbox, Outbox};
@@ -31,7 +31,8 @@ pub struct MemOutbox {
 
 impl Model for MemOutbox {
     ghost use Rattle.std.specs.Prelude.{vec_capacity};
-    ghost use Rattle.icet_ring.specs.Mem.{PortView, outbox_view, IsOutbox};
+    ghost use Rattle.icet_model.specs.Wires.{PortView};
+    ghost use Rattle.icet_ring.specs.Mem.{outbox_view, IsOutbox};
 
     ghost Value = { PortView };
 
@@ -55,7 +56,8 @@ pub struct MemInbox {
 impl Model for MemInbox {
     ghost use Rattle.std.specs.Prelude.{vec_capacity};
     ghost use Rattle.std.specs.VecDeque.{deque_capacity};
-    ghost use Rattle.icet_ring.specs.Mem.{PortView, inbox_view, IsInbox};
+    ghost use Rattle.icet_model.specs.Wires.{PortView};
+    ghost use Rattle.icet_ring.specs.Mem.{inbox_view, IsInbox};
 
     ghost Value = { PortView };
 
@@ -65,17 +67,15 @@ impl Model for MemInbox {
 }
 
 impl Outbox for MemOutbox {
-    ghost sent = { λ v. v.messages };
+    ghost port = { λ v. v };
 
-    ghost room = { λ v. v.room };
-
-    ghost free_known = { λ v. v.known };
-
-    ghost misses = { λ v. v.misses };
-
-    ghost pairing = { λ v. v.pairing };
-
-    fn offer(&mut self, message: Message) -> Result<(), Message> {
+    fn offer(&mut self, message: Message) -> Result<(), Message>
+        requires { 0 < self.old.room }
+        ensures sent { OnOk result (PortCarries message self.old self.new) }
+        ensures back { IfErr result (λ m. m ≡ message) }
+        ensures missed { OnErr result (PortMisses self.old self.new) }
+        ensures unknown { self.old.known ≡ 0 → IsErr result }
+    {
         if self.sent.len() < self.seen + self.opening.cap as usize {
             self.sent.push_reserved(message);
             Ok(())
@@ -87,17 +87,14 @@ impl Outbox for MemOutbox {
 }
 
 impl Inbox for MemInbox {
-    ghost taken = { λ v. v.messages };
+    ghost port = { λ v. v };
 
-    ghost room = { λ v. v.room };
-
-    ghost known = { λ v. v.known };
-
-    ghost misses = { λ v. v.misses };
-
-    ghost pairing = { λ v. v.pairing };
-
-    fn take(&mut self) -> Option<Message> {
+    fn take(&mut self) -> Option<Message>
+        requires { 0 < self.old.room }
+        ensures taken { IfSome result (λ m. PortCarries m self.old self.new) }
+        ensures missed { IfNone result (PortMisses self.old self.new) }
+        ensures unknown { self.old.known ≡ 0 → IsNone result }
+    {
         match self.ready.pop_front() {
             Some(message) => {
                 self.taken += 1;
@@ -166,7 +163,7 @@ impl MemOutbox {
 fn carry(alloc: Global, out: &mut MemOutbox, inbox: &mut MemInbox) -> Result<(), NoMemory>
     requires paired { out.old.pairing ≡ inbox.old.pairing }
     requires more { length out.old.pairing.agreed < length out.old.messages }
-    ensures goes_on { MeetsOn out.old out.new inbox.old inbox.new }
+    ensures goes_on { PairMet out.old out.new inbox.old inbox.new }
     ensures one { OnOk result (length out.new.pairing.agreed ≡ length out.old.pairing.agreed + 1) }
 {
     let message = &out.sent[out.carried];
@@ -185,7 +182,7 @@ pub(crate) fn carry_all(
     inbox: &mut MemInbox,
 ) -> Result<(), NoMemory>
     requires paired { out.old.pairing ≡ inbox.old.pairing }
-    ensures goes_on { MeetsOn out.old out.new inbox.old inbox.new }
+    ensures goes_on { PairMet out.old out.new inbox.old inbox.new }
     ensures all { OnOk result (length out.new.messages ≤ length out.new.pairing.agreed) }
 {
     'carrying: while out.has_more() {
@@ -198,8 +195,8 @@ pub(crate) fn carry_all(
 pub(crate) fn settle(out: &mut MemOutbox, inbox: &mut MemInbox)
     requires paired { out.old.pairing ≡ inbox.old.pairing }
     requires all { length out.old.messages ≤ length out.old.pairing.agreed }
-    ensures goes_on { MeetsOn out.old out.new inbox.old inbox.new }
-    ensures synced { AreSynced out.new.messages inbox.new.messages out.new.pairing.cap out.new.known inbox.new.known }
+    ensures goes_on { PairMet out.old out.new inbox.old inbox.new }
+    ensures synced { PortsAreSynced out.new.pairing.cap out.new inbox.new }
 {
     out.seen = inbox.taken;
     inbox.seen = inbox.taken;

@@ -1,7 +1,7 @@
-ghost use Rattle.std.specs.Prelude.{◌≡◌, ◌≤◌, ◌<◌, ◌+◌, ◌++◌, ◌∷◌, [], ℕ, List, OnOk, OnErr, IfOk, length};
+ghost use Rattle.std.specs.Prelude.{◌≡◌, ◌<◌, ◌+◌, ◌++◌, ◌∷◌, [], ℕ, List, OnOk, OnErr, IfOk};
 ghost use Rattle.icet_model.specs.Pixel.{Pixel};
-ghost use Rattle.icet_model.specs.Traffic.{PairTraffic};
-ghost use Rattle.icet_model.specs.Wires.{IsSameOpening, AreSynced};
+ghost use Rattle.icet_model.specs.Wires.{IsNewPair, PortMet, PortsAreSynced};
+ghost use Rattle.icet_model.specs.Traffic.{PairTraffic, closed, IsTakenPair};
 
 use crate::ports::{Inbox, Outbox};
 use icet_base::{NoMemory, Rank};
@@ -32,44 +32,28 @@ pub trait Wires {
     ) -> Result<(Self::Out, Self::In), NoMemory>
         requires cap { 0 < cap }
         requires total { 0 < total }
-        ensures paired { IfOk result (λ p. Self.Out.pairing p.0 ≡ Self.In.pairing p.1) }
-        ensures from { IfOk result (λ p. (Self.Out.pairing p.0).from ≡ from) }
-        ensures to { IfOk result (λ p. (Self.Out.pairing p.0).to ≡ to) }
-        ensures cap { IfOk result (λ p. (Self.Out.pairing p.0).cap ≡ cap) }
-        ensures total { IfOk result (λ p. (Self.Out.pairing p.0).total ≡ total) }
-        ensures sent { IfOk result (λ p. Self.Out.sent p.0 ≡ []) }
-        ensures taken { IfOk result (λ p. Self.In.taken p.1 ≡ []) }
-        ensures out_room { IfOk result (λ p. Self.Out.room p.0 ≡ total) }
-        ensures in_room { IfOk result (λ p. Self.In.room p.1 ≡ total) }
-        ensures free { IfOk result (λ p. Self.Out.free_known p.0 ≡ cap) }
-        ensures known { IfOk result (λ p. Self.In.known p.1 ≡ 0) }
+        ensures opened { IfOk result (λ p. IsNewPair from to cap total (Self.Out.port p.0) (Self.In.port p.1)) }
         ensures owed { OnOk result (owed self.new ≡ owed self.old + 1) }
-        ensures owed_kept { OnErr result (owed self.old ≤ owed self.new) }
+        ensures owed_kept { OnErr result (owed self.new ≡ owed self.old) }
         ensures log { log self.new ≡ log self.old };
 
     /// Lets the two ports of one pair meet: afterwards the inbox knows what waits, and the outbox how
     /// many places are free.
     fn sync(&mut self, out: &mut Self::Out, inbox: &mut Self::In, cap: u32) -> Result<(), NoMemory>
-        requires paired { Self.Out.pairing out.old ≡ Self.In.pairing inbox.old }
-        requires cap { (Self.Out.pairing out.old).cap ≡ cap }
-        ensures paired { Self.Out.pairing out.new ≡ Self.In.pairing inbox.new }
-        ensures opening { IsSameOpening (Self.Out.pairing out.old) (Self.Out.pairing out.new) }
-        ensures sent { Self.Out.sent out.new ≡ Self.Out.sent out.old }
-        ensures taken { Self.In.taken inbox.new ≡ Self.In.taken inbox.old }
-        ensures out_room { Self.Out.room out.new ≡ Self.Out.room out.old }
-        ensures in_room { Self.In.room inbox.new ≡ Self.In.room inbox.old }
-        ensures synced { OnOk result (AreSynced (Self.Out.sent out.new) (Self.In.taken inbox.new) cap (Self.Out.free_known out.new) (Self.In.known inbox.new)) }
+        requires paired { (Self.Out.port out.old).pairing ≡ (Self.In.port inbox.old).pairing }
+        requires cap { (Self.Out.port out.old).pairing.cap ≡ cap }
+        ensures out { PortMet (Self.Out.port out.old) (Self.Out.port out.new) }
+        ensures inbox { PortMet (Self.In.port inbox.old) (Self.In.port inbox.new) }
+        ensures paired { (Self.Out.port out.new).pairing ≡ (Self.In.port inbox.new).pairing }
+        ensures synced { OnOk result (PortsAreSynced cap (Self.Out.port out.new) (Self.In.port inbox.new)) }
         ensures owed { owed self.new ≡ owed self.old }
         ensures log { log self.new ≡ log self.old };
 
     /// Closes a pair all of whose messages were taken. It takes no memory.
     fn close_pair(&mut self, from: Rank, to: Rank, out: Self::Out, inbox: Self::In)
-        requires paired { Self.Out.pairing out ≡ Self.In.pairing inbox }
-        requires from { (Self.Out.pairing out).from ≡ from }
-        requires to { (Self.Out.pairing out).to ≡ to }
-        requires all_taken { length (Self.In.taken inbox) ≡ length (Self.Out.sent out) }
+        requires ports { IsTakenPair from to (Self.Out.port out) (Self.In.port inbox) }
         requires owed { 0 < owed self.old }
-        ensures taken { Self.In.taken inbox ≡ Self.Out.sent out }
-        ensures log { log self.new ≡ log self.old ++ record { from = from; to = to; messages = Self.Out.sent out } ∷ [] }
+        ensures taken { (Self.In.port inbox).messages ≡ (Self.Out.port out).messages }
+        ensures log { log self.new ≡ log self.old ++ closed from to (Self.Out.port out) ∷ [] }
         ensures owed { owed self.old ≡ owed self.new + 1 };
 }

@@ -1,10 +1,16 @@
 //! Whole runs over memory: each status, what was written, and what was noted.
+ghost use Rattle.std.specs.Prelude.{◌≤◌, None};
+
 use icet_base::{
-    Gate, MemSink, MemSource, NoMemory, PlainGate, Rank, Source, SureSink, SureSource,
+    Gate, MemSink, MemSource, NoMemory, PlainGate, Rank, ReadFault, Source, SureSink, SureSource,
 };
 use icet_cli::{Status, run};
-use icet_ring::MemWires;
+use icet_jobs::{Way, composite};
+use icet_multi::{Settings, Single, Strategy};
+use icet_ring::{MemInbox, MemOutbox, MemWires, Wires};
+use icet_scene::read::read;
 use std::alloc::Global;
+use std::process::Abort;
 use std::sync::atomic::{AtomicU32, Ordering};
 use std::thread::Threads;
 
@@ -47,6 +53,9 @@ const THREE_RANKS: &str =
 const OF_EACH: &[u8] =
     b"P7\nWIDTH 2\nHEIGHT 2\nDEPTH 4\nMAXVAL 255\nTUPLTYPE RGB_ALPHA\nENDHDR\n\x03\x00\x00\xff\x02\x00\x00\xff\x01\x00\x00\xff\x00\x00\x00\x00";
 
+/// The line of a text that is too long.
+const LONG: &[u8] = b"icet: scene longer than 67108864 bytes\n";
+
 /// The number of a call that is never made.
 const NEVER: u64 = 1_000_000;
 
@@ -80,39 +89,57 @@ fn source_of(alloc: Global, scene: &str, fails: u64) -> Result<MemSource, NoMemo
     Ok(MemSource::new(bytes, 10, vec![in alloc; fails]?))
 }
 
-/// Whether a run over memory comes to this, where the sink takes 40 bytes a call and fails at the call
-/// with this number.
-fn comes_to<R: Threads + Sync>(
+/// What came of a run.
+#[derive(Drop)]
+struct Came {
+    status: Status,
+    sink: MemSink,
+    notes: MemSink,
+}
+
+/// What comes of a run over memory, where the sink takes 40 bytes a call and fails at the call with this
+/// number.
+fn came_of<R: Threads + Sync>(
     rt: &R,
     alloc: Global,
     words: &[&str],
     source: &mut MemSource,
     fails: u64,
-    want: Want,
-) -> Result<bool, NoMemory> {
+) -> Result<Came, NoMemory> {
     let mut sink = MemSink::new(alloc, 1024, 40, vec![in alloc; fails]?)?;
     let mut notes = MemSink::new(alloc, 1024, 1024, Vec::new(alloc))?;
     let mut wires = MemWires::new(alloc);
     let status = run(
         rt, alloc, words, source, &mut sink, &mut notes, &mut wires, &PlainGate,
     );
-    Ok(
-        status == want.status
-            && sink.bytes() == want.written
-            && notes.bytes() == want.noted.as_bytes(),
-    )
+    Ok(Came {
+        status,
+        sink,
+        notes,
+    })
 }
 
-/// Whether a run on this scene, in which nothing fails, comes to this.
-fn gives<R: Threads + Sync>(
+/// What comes of a run on this scene, in which nothing fails.
+fn came_of_scene<R: Threads + Sync>(
     rt: &R,
     alloc: Global,
     words: &[&str],
     scene: &str,
-    want: Want,
-) -> Result<bool, NoMemory> {
+) -> Result<Came, NoMemory> {
     let mut source = source_of(alloc, scene, NEVER)?;
-    comes_to(rt, alloc, words, &mut source, NEVER, want)
+    came_of(rt, alloc, words, &mut source, NEVER)
+}
+
+/// Stops the test unless this came.
+fn assert_came<R: Abort>(rt: &R, came: &Result<Came, NoMemory>, want: Want, case: &str) {
+    match came {
+        Ok(came) => {
+            assert_eq!(rt; came.status, want.status, "{case}");
+            assert_eq!(rt; came.sink.bytes(), want.written, "{case}");
+            assert_eq!(rt; came.notes.bytes(), want.noted.as_bytes(), "{case}");
+        }
+        Err(_) => assert!(rt; false, "{case}"),
+    }
 }
 
 #[test]
@@ -138,8 +165,8 @@ fn each_scene_gets_its_picture_or_its_line(rt: HostRuntime) {
             fault(refused, b"", "icet: scene too large\n"),
         ),
     ] {
-        let holds = gives(&rt, rt.alloc(), &WORDS, scene, want);
-        assert!(rt; matches!(holds, Ok(true)), "{scene}");
+        let came = came_of_scene(&rt, rt.alloc(), &WORDS, scene);
+        assert_came(&rt, &came, want, scene);
     }
 }
 
@@ -165,44 +192,42 @@ fn each_command_writes_its_text(rt: HostRuntime) {
             "--schedule",
             schedule,
         ];
-        let holds = gives(&rt, rt.alloc(), &words, TWO_RANKS, done(written));
-        assert!(rt; matches!(holds, Ok(true)), "{schedule}");
+        let came = came_of_scene(&rt, rt.alloc(), &words, TWO_RANKS);
+        assert_came(&rt, &came, done(written), schedule);
     }
 }
 
-/// Whether a run whose source and sink fail at the calls with these numbers comes to this.
-fn fails<R: Threads + Sync>(
+/// What comes of a run whose source and sink fail at the calls with these numbers.
+fn came_of_faults<R: Threads + Sync>(
     rt: &R,
     alloc: Global,
     read_fails: u64,
     write_fails: u64,
-    want: Want,
-) -> Result<bool, NoMemory> {
+) -> Result<Came, NoMemory> {
     let mut source = source_of(alloc, POINT, read_fails)?;
-    comes_to(rt, alloc, &WORDS, &mut source, write_fails, want)
+    came_of(rt, alloc, &WORDS, &mut source, write_fails)
 }
 
+// The picture takes two writes and a flush.
 #[test]
 fn a_fault_in_mid_stream_is_answered(rt: HostRuntime) {
     let unread = fault(Status::ReadFault, b"", "icet: read failed\n");
     let unwritten = fault(Status::WriteFault, &PICTURE[..40], "icet: write failed\n");
-    let reading = fails(&rt, rt.alloc(), 1, NEVER, unread);
-    assert!(rt; matches!(reading, Ok(true)), "reading");
-    let writing = fails(&rt, rt.alloc(), NEVER, 1, unwritten);
-    assert!(rt; matches!(writing, Ok(true)), "writing");
-}
-
-/// Whether the words are refused, with their line, nothing written and nothing read.
-fn is_refused<R: Threads + Sync>(rt: &R, alloc: Global, words: &[&str]) -> Result<bool, NoMemory> {
-    let want = fault(Status::WordsRefused, b"", "icet: words refused\n");
-    let mut source = source_of(alloc, POINT, NEVER)?;
-    let refused = comes_to(rt, alloc, words, &mut source, NEVER, want)?;
-    let mut front = [0; 10];
-    Ok(refused && source.read(&mut front).is_ok() && front == *b"icet-scene")
+    let unflushed = fault(Status::WriteFault, PICTURE, "icet: write failed\n");
+    for (read_fails, write_fails, want, case) in [
+        (1, NEVER, unread, "reading"),
+        (NEVER, 1, unwritten, "writing"),
+        (NEVER, 2, unflushed, "flushing"),
+        (NEVER, 3, done(PICTURE), "flushing again"),
+    ] {
+        let came = came_of_faults(&rt, rt.alloc(), read_fails, write_fails);
+        assert_came(&rt, &came, want, case);
+    }
 }
 
 #[test]
 fn other_words_are_refused_with_nothing_read(rt: HostRuntime) {
+    let refused = fault(Status::WordsRefused, b"", "icet: words refused\n");
     for words in [
         [].as_slice(),
         &["composite"],
@@ -210,8 +235,16 @@ fn other_words_are_refused_with_nothing_read(rt: HostRuntime) {
         &["composite", "--strategy=direct"],
         &["composite", "--strategy", "direct", "--cap", "0"],
     ] {
-        let holds = is_refused(&rt, rt.alloc(), words);
-        assert!(rt; matches!(holds, Ok(true)), "{words:?}");
+        match source_of(rt.alloc(), POINT, NEVER) {
+            Ok(mut source) => {
+                let came = came_of(&rt, rt.alloc(), words, &mut source, NEVER);
+                assert_came(&rt, &came, refused, "words");
+                let mut front = [0; 10];
+                let _ = source.read(&mut front);
+                assert!(rt; front == *b"icet-scene");
+            }
+            Err(_) => assert!(rt; false),
+        }
     }
 }
 
@@ -231,6 +264,7 @@ impl Gate for CountingGate {
 fn entries_of<R: Threads + Sync>(
     rt: &R,
     alloc: Global,
+    words: &[&str],
     scene: &str,
 ) -> Result<Option<u32>, NoMemory> {
     let bytes = Vec::from_slice(alloc, scene.as_bytes())?;
@@ -242,7 +276,7 @@ fn entries_of<R: Threads + Sync>(
     let status = run(
         rt,
         alloc,
-        &WORDS,
+        words,
         &mut source,
         &mut SureSink::new(),
         &mut SureSink::new(),
@@ -255,16 +289,188 @@ fn entries_of<R: Threads + Sync>(
     })
 }
 
+/// Wires that note with which capacity each pair was opened.
+#[derive(Drop)]
+struct NotingWires {
+    inner: MemWires,
+    caps: Vec<u32>,
+}
+
+impl Wires for NotingWires {
+    type Out = MemOutbox;
+
+    type In = MemInbox;
+
+    ghost log = { λ w. w.inner.log };
+
+    ghost owed = { λ w. w.inner.owed };
+
+    fn open_pair(
+        &mut self,
+        alloc: Global,
+        from: Rank,
+        to: Rank,
+        cap: u32,
+        total: u32,
+    ) -> Result<(MemOutbox, MemInbox), NoMemory> {
+        self.caps.push(cap)?;
+        self.inner.open_pair(alloc, from, to, cap, total)
+    }
+
+    fn sync(
+        &mut self,
+        out: &mut MemOutbox,
+        inbox: &mut MemInbox,
+        cap: u32,
+    ) -> Result<(), NoMemory> {
+        self.inner.sync(out, inbox, cap)
+    }
+
+    fn close_pair(&mut self, from: Rank, to: Rank, out: MemOutbox, inbox: MemInbox) {
+        self.inner.close_pair(from, to, out, inbox);
+    }
+}
+
+/// The capacities of the pairs that a run with these words opens.
+fn caps_of<R: Threads + Sync>(
+    rt: &R,
+    alloc: Global,
+    words: &[&str],
+    scene: &str,
+) -> Result<Vec<u32>, NoMemory> {
+    let bytes = Vec::from_slice(alloc, scene.as_bytes())?;
+    let mut wires = NotingWires {
+        inner: MemWires::new(alloc),
+        caps: Vec::new(alloc),
+    };
+    let _ = run(
+        rt,
+        alloc,
+        words,
+        &mut SureSource::new(alloc, bytes, 10),
+        &mut SureSink::new(),
+        &mut SureSink::new(),
+        &mut wires,
+        &PlainGate,
+    );
+    Ok(wires.caps)
+}
+
+#[test]
+fn each_pair_has_the_capacity_of_the_words(rt: HostRuntime) {
+    for (job, cap, want) in [
+        ("composite", "1", [1, 1].as_slice()),
+        ("composite", "64", &[64, 64]),
+        ("replay", "1", &[]),
+    ] {
+        let words = [job, "--strategy", "direct", "--cap", cap];
+        match caps_of(&rt, rt.alloc(), &words, THREE_RANKS) {
+            Ok(caps) => assert_eq!(rt; caps.as_slice(), want, "{job} {cap}"),
+            Err(_) => assert!(rt; false),
+        }
+    }
+}
+
+/// How often the ranks entered where a scene is composited with this burst.
+fn entries_with_burst<R: Threads + Sync>(rt: &R, alloc: Global, burst: u32) -> Result<u32, NoMemory>
+    requires { 1 ≤ burst }
+{
+    let gate = CountingGate {
+        entries: AtomicU32::new(0),
+    };
+    let way = Way {
+        settings: Settings {
+            strategy: Strategy::Direct,
+            single: Single::Tree,
+            k: 8,
+        },
+        cap: 4,
+        workers: 1,
+        burst,
+        strands: 1,
+    };
+    match read(alloc, THREE_RANKS.as_bytes()) {
+        Ok(scene) => {
+            composite(rt, alloc, &scene, &way, &mut MemWires::new(alloc), &gate)?;
+            Ok(gate.entries.load(Ordering::SeqCst))
+        }
+        Err(_) => Err(NoMemory),
+    }
+}
+
+// Two of the three ranks send in the first turn, and the third takes both messages from the second one on. A
+// turn that has made its exchanges leaves what stands behind the last one to the next turn.
+#[test]
+fn a_rank_makes_as_many_exchanges_as_its_burst(rt: HostRuntime) {
+    for (burst, want) in [(1, 4 * 3), (2, 3 * 3), (3, 2 * 3)] {
+        let entries = entries_with_burst(&rt, rt.alloc(), burst);
+        assert_eq!(rt; entries, Ok(want), "{burst}");
+    }
+}
+
+/// A source of so many bytes, none of which ends a line.
+#[derive(Drop)]
+struct Zeros {
+    left: usize,
+}
+
+impl Source for Zeros {
+    ghost told = { λ _. record { left = None; faults = 0 } };
+
+    fn read(&mut self, buf: &mut [u8]) -> Result<usize, ReadFault> {
+        let n = buf.len().min(self.left);
+        self.left -= n;
+        Ok(n)
+    }
+}
+
+/// How a run on this source ends.
+fn status_of<R: Threads + Sync>(
+    rt: &R,
+    alloc: Global,
+    source: &mut Zeros,
+    notes: &mut MemSink,
+) -> Status {
+    run(
+        rt,
+        alloc,
+        &WORDS,
+        source,
+        &mut SureSink::new(),
+        notes,
+        &mut MemWires::new(alloc),
+        &PlainGate,
+    )
+}
+
+#[test]
+fn a_text_too_long_is_refused_and_not_read_on(rt: HostRuntime) {
+    for (len, left) in [(67_108_865, 0), (4_294_967_296, 4_294_967_296 - 67_174_400)] {
+        let mut source = Zeros { left: len };
+        match MemSink::new(rt.alloc(), 1024, 1024, Vec::new(rt.alloc())) {
+            Ok(mut notes) => {
+                let status = status_of(&rt, rt.alloc(), &mut source, &mut notes);
+                assert_eq!(rt; status, Status::SceneRefused, "{len}");
+                assert_eq!(rt; notes.bytes(), LONG, "{len}");
+                assert_eq!(rt; source.left, left, "{len}");
+            }
+            Err(_) => assert!(rt; false),
+        }
+    }
+}
+
 // At least one turn, and at most one for each exchange, a send and a take a message, and one more: 1, 3 and 5
-// turns. Each rank enters once a turn.
+// turns. Each rank enters once a turn. A replay takes none.
 #[test]
 fn a_run_takes_few_turns(rt: HostRuntime) {
-    for (scene, least, most) in [
-        (POINT, 1, 1),
-        (TWO_RANKS, 2, 3 * 2),
-        (THREE_RANKS, 3, 5 * 3),
+    for (job, scene, least, most) in [
+        ("composite", POINT, 1, 1),
+        ("composite", TWO_RANKS, 2, 3 * 2),
+        ("composite", THREE_RANKS, 3, 5 * 3),
+        ("replay", THREE_RANKS, 0, 0),
     ] {
-        let entries = entries_of(&rt, rt.alloc(), scene);
+        let words = [job, "--strategy", "direct"];
+        let entries = entries_of(&rt, rt.alloc(), &words, scene);
         let are_few = matches!(entries, Ok(Some(count)) if least <= count && count <= most);
         assert!(rt; are_few, "{scene}");
     }

@@ -3,12 +3,12 @@ use Rattle.std.proofs.Common.{◌≡◌, ℕ, zero, suc, ◌+◌, ◌<◌, Bool,
 use Rattle.std.specs.Prelude.{option_map, ◌==◌, ◌&&◌, nat_le}
 use Rattle.std.specs.Option.{option_and_then}
 use Rattle.std.proofs.lemmas.Bool.Decides.{nat_tests}
-use Rattle.icet_model.specs.Numeral.{number_of, within}
+use Rattle.icet_scene_model.specs.Numeral.{number_of, within}
 use Rattle.std.proofs.lemmas.List.Splits.{length-slice_split}
-use Rattle.icet_model.specs.Lines.{words_of}
+use Rattle.icet_scene_model.specs.Lines.{words_of}
 use Rattle.std.proofs.Math.Seq.{drop-cons}
 use Rattle.std.proofs.lemmas.List.{drop_all}
-use Rattle.icet_model.specs.Scene.{number_in, with_number, numbers_in}
+use Rattle.icet_scene_model.specs.Scene.{number_in, with_number, numbers_in}
 use Rattle.icet_scene.specs.Words.{HasRead, IsIn}
 
 cut : (ranges : List (ℕ × ℕ)) (i : ℕ) (range : ℕ × ℕ) → i < length ranges → get_or ranges i range ≡ range → drop i ranges ≡ range ∷ drop (i + 1) ranges

@@ -2,8 +2,8 @@
 use Rattle.std.proofs.Common.{◌≡◌, ℕ, ◌<◌, false, List, [], ◌∷◌, length, refl, arith, None}
 use Rattle.std.specs.Prelude.{◌==◌}
 use Rattle.std.proofs.lemmas.List.Splits.{length-slice_split}
-use Rattle.icet_model.specs.Lines.{words_of}
-use Rattle.icet_model.specs.Scene.{is_pair, end_said}
+use Rattle.icet_scene_model.specs.Lines.{words_of}
+use Rattle.icet_scene_model.specs.Scene.{is_pair, end_said}
 
 more_words : (first second one other : List ℕ) (words : List (List ℕ)) → 0 < length words → is_pair first second (one ∷ other ∷ words) ≡ false
 more_words first second one other [] l = absurd (omega arith)

@@ -1,6 +1,6 @@
 -- The part of a scene that was read so far.
 use Rattle.std.specs.Prelude.{◌≡◌, ℕ, ◌≤◌, ◌-◌, All, List, [], length, map}
-use Rattle.icet_model.specs.Scene.{Said, ranks_in, tiles_in, shapes_in}
+use Rattle.icet_scene_model.specs.Scene.{Said, ranks_in, tiles_in, shapes_in}
 use Rattle.icet_model.specs.Tiles.{IsTileArea}
 use Rattle.icet_tiles.specs.declared.layout.Tile.{Tile}
 use Rattle.icet_tiles.specs.Layouts.{tile_view}
@@ -8,6 +8,7 @@ use Rattle.icet_raster.specs.declared.shape.Shape.{Shape}
 use Rattle.icet_raster.specs.Shapes.{IsInRange}
 use Rattle.icet_scene.specs.declared.line.Place.{Place}
 use Rattle.icet_scene.specs.declared.line.Place.TheVariants.{Start, AfterHead, AfterMode, AfterRanks, InBody, AfterEnd}
+use Rattle.icet_scene.specs.declared.read.Draft.{Draft}
 use Rattle.icet_scene.specs.Lines.{placed_of, place_behind}
 
 pub record HasRanks (ranks : ℕ) : Type 0 where
@@ -37,3 +38,10 @@ pub record IsDraft (before : List Said) (place : Place) (ranks : ℕ) (tiles : L
   pub ranks_are : ranks_in before ≡ ranks
   pub tiles_are : tiles_in before ≡ map tile_view tiles
   pub shapes_are : shapes_in before ≡ map placed_of shapes
+
+-- what was read is as before
+pub record IsSameDraft (old new : Draft) : Type 0 where
+  pub place : new.place ≡ old.place
+  pub ranks : new.ranks ≡ old.ranks
+  pub tiles : new.tiles.items ≡ old.tiles.items
+  pub shapes : new.shapes.items ≡ old.shapes.items

@@ -1,6 +1,6 @@
 -- What the code keeps of a line and of the lines before it, for what the definitions say.
 use Rattle.std.specs.Prelude.{ℕ, ◌≤◌, ◌-◌, List, [], ◌∷◌}
-use Rattle.icet_model.specs.Scene.{Said, Head as HeadSaid, ModeIs, Ranks as RanksSaid, TileIs, Draws, End as EndSaid, Placed}
+use Rattle.icet_scene_model.specs.Scene.{Said, Head as HeadSaid, ModeIs, Ranks as RanksSaid, TileIs, Draws, End as EndSaid, Placed}
 use Rattle.icet_model.specs.Tiles.{IsTileArea}
 use Rattle.icet_tiles.specs.Layouts.{tile_view}
 use Rattle.icet_raster.specs.declared.shape.Shape.{Shape}

@@ -1,7 +1,7 @@
 -- What reading a text answers, for what the text is.
 use Rattle.std.specs.Prelude.{◌≡◌, ℕ, ◌≤◌, ◌+◌, List, [], length, drop, Result, Ok, Err}
-use Rattle.icet_model.specs.Scene.{SceneView, Said, Text, SceneText, TooLong as TooLongText, NotBuilt as NotBuiltText, TooLarge as TooLargeText, text_behind}
-use Rattle.icet_model.specs.Lines.{lines_of}
+use Rattle.icet_scene_model.specs.Scene.{SceneView, Said, Text, SceneText, TooLong as TooLongText, NotBuilt as NotBuiltText, TooLarge as TooLargeText, text_behind}
+use Rattle.icet_scene_model.specs.Lines.{lines_of}
 use Rattle.icet_tiles.specs.declared.layout.Tile.{Tile}
 use Rattle.icet_raster.specs.declared.shape.Shape.{Shape}
 use Rattle.icet_scene.specs.declared.fault.SceneFault.{SceneFault}

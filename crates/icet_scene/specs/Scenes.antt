@@ -1,7 +1,7 @@
 -- Which scenes are lawful: they could be read from some text.
 use Rattle.std.specs.Prelude.{◌≡◌, ℕ, ◌≤◌, ◌<◌, ◌*◌, All, List, length}
 use Rattle.std.specs.List.{range_with_len, sum_by}
-use Rattle.icet_model.specs.Scene.{SceneView, rank_pixels}
+use Rattle.icet_scene_model.specs.Scene.{SceneView, rank_pixels}
 use Rattle.icet_model.specs.Tiles.{TileView}
 use Rattle.icet_raster.specs.declared.shape.Shape.{Shape}
 use Rattle.icet_raster.specs.Shapes.{IsInRange}

@@ -1,7 +1,7 @@
 -- The words behind a place of a line.
 use Rattle.std.specs.Prelude.{◌≡◌, ◌≤◌, ℕ, List, [], ◌++◌, length, drop, Option, Some, None, option_map}
-use Rattle.icet_model.specs.Lines.{words_of}
-use Rattle.icet_model.specs.Scene.{numbers_in}
+use Rattle.icet_scene_model.specs.Lines.{words_of}
+use Rattle.icet_scene_model.specs.Scene.{numbers_in}
 
 -- none where the line is at its end
 abbrev pub words_behind : Option (List ℕ) → List (List ℕ)

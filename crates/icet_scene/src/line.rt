@@ -1,8 +1,8 @@
 ghost use Rattle.std.specs.Prelude.{◌≡◌, ◌≤◌, ◌-◌, List, length, slice_index, IfSome, option_map};
 ghost use Rattle.std.specs.Option.{option_copied, option_and_then};
-ghost use Rattle.icet_model.specs.Lines.{words_of};
-ghost use Rattle.icet_model.specs.Scene.{Said, is_pair, head_said, mode_said, ranks_said, tile_said, shape_said, said_behind, ranks_in, tile_of, point_of, tile_ranges, point_ranges, numbers_in, end_said, Draws};
-ghost use Rattle.icet_model.specs.Raster.{Point};
+ghost use Rattle.icet_scene_model.specs.Lines.{words_of};
+ghost use Rattle.icet_scene_model.specs.Scene.{Said, is_pair, head_said, mode_said, ranks_said, tile_said, shape_said, said_behind, ranks_in, tile_of, point_of, tile_ranges, point_ranges, numbers_in, end_said, Draws};
+ghost use Rattle.icet_scene_model.specs.Raster.{Point};
 ghost use Rattle.icet_scene.specs.Lines.{said_of, place_behind, IsLawfulAt};
 ghost use Rattle.icet_scene.specs.Words.{words_behind, IsIn};
 
@@ -13,7 +13,7 @@ use icet_raster::Shape;
 use icet_tiles::Tile;
 
 /// What a line says.
-#[derive(Clone, Copy)]
+#[derive(Drop)]
 pub enum Line {
     Head,
     Mode(Mode),
@@ -198,7 +198,13 @@ fn point(ranks: u32, ns: &[u32]) -> Option<Line>
     ensures said { option_map said_of result ≡ point_of ns.now }
     ensures lawful { IfSome result (IsLawfulAt Place.InBody ranks) }
 {
-    let paint = Fragment::new(ns[4] as u8, ns[5] as u8, ns[6] as u8, ns[7] as u8, ns[3])?;
+    let paint = Fragment::new(
+        ns[4] as u16,
+        ns[5] as u16,
+        ns[6] as u16,
+        ns[7] as u16,
+        ns[3],
+    )?;
     let shape = Shape::Point {
         x: ns[1] as i32,
         y: ns[2] as i32,

@@ -1,9 +1,10 @@
-ghost use Rattle.std.specs.Prelude.{◌≡◌, ◌≤◌, ◌<◌, ◌+◌, ◌∷◌, [], List, IfOk, OnOk, drop, length};
+ghost use Rattle.std.specs.Prelude.{◌≡◌, ◌≤◌, ◌<◌, ◌+◌, ◌∷◌, [], List, IfOk, OnOk, OnErr, Err, drop, length};
 ghost use Rattle.std.specs.List.{range_with_len};
-ghost use Rattle.icet_model.specs.Lines.{lines_of};
-ghost use Rattle.icet_model.specs.Scene.{Said, text_is, text_behind, ended, sized, scene_in};
+ghost use Rattle.icet_model.specs.declared.limits.TheConstants.{MAX_SCENE_BYTES};
+ghost use Rattle.icet_scene_model.specs.Lines.{lines_of};
+ghost use Rattle.icet_scene_model.specs.Scene.{Said, text_is, text_behind, ended, sized, scene_in};
 ghost use Rattle.icet_scene.specs.Lines.{said_of, IsLawfulAt};
-ghost use Rattle.icet_scene.specs.Drafts.{IsDraft, HasPlace, HasBody};
+ghost use Rattle.icet_scene.specs.Drafts.{IsDraft, IsSameDraft, HasPlace, HasBody};
 ghost use Rattle.icet_scene.specs.Readings.{IsReading};
 
 use crate::fault::SceneFault;
@@ -47,6 +48,7 @@ impl Draft {
         requires place { HasPlace self.old.place self.old.ranks self.old.tiles.items self.old.shapes.items }
         ensures draft { OnOk result ((before : List Said) → IsDraft before self.old.place self.old.ranks self.old.tiles.items self.old.shapes.items → IsDraft (said_of line ∷ before) self.new.place self.new.ranks self.new.tiles.items self.new.shapes.items) }
         ensures place { OnOk result (HasPlace self.new.place self.new.ranks self.new.tiles.items self.new.shapes.items) }
+        ensures kept { OnErr result (IsSameDraft self.old self.new) }
     {
         match line {
             Line::Head => {
@@ -76,6 +78,7 @@ impl Draft {
         requires place { HasPlace self.old.place self.old.ranks self.old.tiles.items self.old.shapes.items }
         ensures draft { OnOk result ((before : List Said) → IsDraft before self.old.place self.old.ranks self.old.tiles.items self.old.shapes.items → IsDraft (said_of (Line.Tile tile) ∷ before) self.new.place self.new.ranks self.new.tiles.items self.new.shapes.items) }
         ensures place { OnOk result (HasPlace self.new.place self.new.ranks self.new.tiles.items self.new.shapes.items) }
+        ensures kept { OnErr result (IsSameDraft self.old self.new) }
     {
         self.tiles.push(tile)?;
         self.place = Place::InBody;
@@ -87,6 +90,7 @@ impl Draft {
         requires place { HasPlace self.old.place self.old.ranks self.old.tiles.items self.old.shapes.items }
         ensures draft { OnOk result ((before : List Said) → IsDraft before self.old.place self.old.ranks self.old.tiles.items self.old.shapes.items → IsDraft (said_of (Line.Shape rank shape) ∷ before) self.new.place self.new.ranks self.new.tiles.items self.new.shapes.items) }
         ensures place { OnOk result (HasPlace self.new.place self.new.ranks self.new.tiles.items self.new.shapes.items) }
+        ensures kept { OnErr result (IsSameDraft self.old self.new) }
     {
         self.shapes.push((rank, shape))?;
         Ok(())
@@ -96,7 +100,8 @@ impl Draft {
 /// The scene of a text, or the fault that refuses it. Each line of the text has to be the one that may
 /// stand there: `icet-scene 1`, `mode depth`, `ranks P`, one `tile`, any number of `point`s, `end`.
 pub fn read(alloc: Global, bytes: &[u8]) -> Result<Scene, SceneFault>
-    ensures { IsReading result (text_is bytes.now) }
+    ensures reading { IsReading result (text_is bytes.now) }
+    ensures too_long { MAX_SCENE_BYTES < length bytes.now → result ≡ Err SceneFault.TooLong }
 {
     if bytes.len() > MAX_SCENE_BYTES {
         return Err(SceneFault::TooLong);
@@ -106,7 +111,7 @@ pub fn read(alloc: Global, bytes: &[u8]) -> Result<Scene, SceneFault>
 
 /// The scene of the lines of a text that isn't too long.
 fn read_lines(alloc: Global, bytes: &[u8]) -> Result<Scene, SceneFault>
-    requires { length bytes.now ≤ 67108864 }
+    requires { length bytes.now ≤ MAX_SCENE_BYTES }
     ensures { IsReading result (text_behind [] 1 (lines_of bytes.now)) }
 {
     let mut draft = Draft::new(alloc);

@@ -1,7 +1,7 @@
 ghost use Rattle.std.specs.Prelude.{◌≡◌, IfOk, All, map};
 ghost use Rattle.icet_scene.specs.Lines.{placed_of};
 ghost use Rattle.icet_scene.specs.Scenes.{IsLawfulScene};
-ghost use Rattle.icet_model.specs.Jobs.{shapes_of};
+ghost use Rattle.icet_scene_model.specs.Jobs.{shapes_of};
 ghost use Rattle.icet_raster.specs.Shapes.{drawing_of, IsInRange};
 
 use icet_base::{Mode, NoMemory, Rank};
@@ -26,7 +26,7 @@ pub struct Scene {
 
 impl Model for Scene {
     ghost use Rattle.std.specs.Prelude.{map};
-    ghost use Rattle.icet_model.specs.Scene.{SceneView};
+    ghost use Rattle.icet_scene_model.specs.Scene.{SceneView};
     ghost use Rattle.icet_scene.specs.Lines.{placed_of};
     ghost use Rattle.icet_scene.specs.Scenes.{IsScene};
 
@@ -64,7 +64,7 @@ fn own_shapes(alloc: Global, shapes: &[(Rank, Shape)], rank: Rank) -> Result<Vec
     let mut own = Vec::new(alloc);
     for (drawer, shape) in shapes {
         if *drawer == rank {
-            own.push(*shape)?;
+            own.push(shape.copy(alloc)?)?;
         }
     }
     Ok(own)

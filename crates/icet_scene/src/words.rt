@@ -1,7 +1,7 @@
 ghost use Rattle.std.specs.Prelude.{◌≡◌, ◌==◌, ◌∷◌, ◌≤◌, ◌<◌, ℕ, slice_index, slice_index_or, IfSome, position, length, option_map};
 ghost use Rattle.std.specs.Option.{option_copied};
-ghost use Rattle.icet_model.specs.Lines.{words_of};
-ghost use Rattle.icet_model.specs.Scene.{numbers_in};
+ghost use Rattle.icet_scene_model.specs.Lines.{words_of};
+ghost use Rattle.icet_scene_model.specs.Scene.{numbers_in};
 ghost use Rattle.icet_scene.specs.Words.{words_behind, IsIn};
 
 use crate::numeral::number;

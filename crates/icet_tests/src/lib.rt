@@ -6,6 +6,7 @@
 
 #[cfg(test)]
 mod bytes;
+pub mod drawing;
 #[cfg(test)]
 mod gates;
 #[cfg(test)]
@@ -14,3 +15,5 @@ mod nets;
 mod pieces;
 #[cfg(test)]
 mod samples;
+#[cfg(test)]
+mod shapes;

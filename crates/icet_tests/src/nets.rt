@@ -26,7 +26,7 @@ fn open<W: Wires>(
     pixels: &[[Pixel; 2]; 2],
     wires: &mut W,
 ) -> Result<(Hull<W>, Vec<RankMachine<W::In, W::Out>>), NoMemory>
-    ensures hulls { IfOk result (λ net. AreHulls W.In.pairing W.Out.pairing net.0 net.1.items) }
+    ensures hulls { IfOk result (λ net. AreHulls net.0 net.1.items) }
     ensures owed { IfOk result (λ net. length net.0.pairs ≤ W.owed wires.new) }
 {
     let tile = Tile {
@@ -52,15 +52,15 @@ fn finish<W: Wires, G: Gate, R: Threads + Sync>(
     wires: &mut W,
     gate: &G,
 ) -> Result<(), NoMemory>
-    requires hulls { AreHulls W.In.pairing W.Out.pairing hull.now ranks.old.items }
-    ensures hulls { AreHulls W.In.pairing W.Out.pairing hull.now ranks.new.items }
+    requires hulls { AreHulls hull.now ranks.old.items }
+    ensures hulls { AreHulls hull.now ranks.new.items }
     ensures owed { W.owed wires.new ≡ W.owed wires.old }
 {
     drive(rt, hull, ranks, wires, 2, 1, gate)
 }
 
 /// An opaque pixel whose grey tells it apart.
-fn grey(level: u8, z: u32) -> Pixel {
+fn grey(level: u16, z: u32) -> Pixel {
     Fragment::new(level, level, level, 255, z)
 }
 
@@ -70,9 +70,9 @@ fn closed_early<W: Wires>(
     ranks: Vec<RankMachine<W::In, W::Out>>,
     wires: &mut W,
 ) -> Option<Unfinished<W>>
-    requires hulls { AreHulls W.In.pairing W.Out.pairing hull ranks.items }
+    requires hulls { AreHulls hull ranks.items }
     requires owed { length hull.pairs ≤ W.owed wires.old }
-    ensures hulls { IfSome result (λ u. AreHulls W.In.pairing W.Out.pairing u.hull u.ranks.items) }
+    ensures hulls { IfSome result (λ u. AreHulls u.hull u.ranks.items) }
     ensures owed { IfSome result (λ u. length u.hull.pairs ≤ W.owed wires.new) }
 {
     close_net(hull, ranks, wires).err()

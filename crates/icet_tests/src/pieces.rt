@@ -6,7 +6,7 @@ use icet_sparse::Sparse;
 use std::alloc::Global;
 
 /// An opaque grey pixel.
-fn grey(level: u8, z: u32) -> Pixel {
+fn grey(level: u16, z: u32) -> Pixel {
     Fragment::new(level, level, level, 255, z)
 }
 

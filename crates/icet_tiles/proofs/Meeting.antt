@@ -4,8 +4,8 @@ use Rattle.std.specs.Int.{int_max, int_min}
 use Rattle.std.specs.Int.Signed.{lt_z}
 use Rattle.std.proofs.lemmas.Int.{ints, clamps}
 use Rattle.icet_model.specs.declared.names.Rect.{Rect}
-use Rattle.icet_model.specs.Boxes.{right_of, bottom_of, Meet, meets}
-use Rattle.icet_model.proofs.Overlaps.{pixel_meets}
+use Rattle.icet_scene_model.specs.Boxes.{right_of, bottom_of, Meet, meets}
+use Rattle.icet_scene_model.proofs.Overlaps.{pixel_meets}
 
 -- the test whether two ranges share a number, each from its first on
 abbrev pub overlap_of : ℤ → ℕ → ℤ → ℕ → Bool

@@ -1,7 +1,7 @@
 ghost use Rattle.std.specs.Prelude.{◌≡◌, ◌↔◌, ◌≤ℤ◌, ◌<ℤ◌, ◌+ℤ◌, pos, IsTrue};
 ghost use Rattle.std.specs.Int.{int_max, int_min};
 ghost use Rattle.std.specs.Int.Signed.{lt_z};
-ghost use Rattle.icet_model.specs.Boxes.{HasPixel, Meet, meets};
+ghost use Rattle.icet_scene_model.specs.Boxes.{HasPixel, Meet, meets};
 
 use icet_base::Rect;
 

@@ -1,5 +1,5 @@
 ghost use Rattle.std.specs.Prelude.{◌≡◌, ◌<◌, ◌≤◌, All, IfOk, Some, length, map, slice_get};
-ghost use Rattle.icet_model.specs.Boxes.{contributors, reaches_into};
+ghost use Rattle.icet_scene_model.specs.Boxes.{contributors, reaches_into};
 ghost use Rattle.icet_model.specs.Tiles.{area_of, IsTileArea};
 ghost use Rattle.icet_tiles.specs.Contributors.{HasEachOnce};
 

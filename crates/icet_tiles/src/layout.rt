@@ -1,4 +1,5 @@
 ghost use Rattle.std.specs.Prelude.{◌≡◌, ◌<◌, ◌≤◌, Some, length, map, slice_get};
+ghost use Rattle.icet_model.specs.declared.limits.TheConstants.{MAX_TILES};
 ghost use Rattle.icet_model.specs.Tiles.{IsTileArea, IsLayout as IsLayoutOfViews};
 
 use icet_base::{Rank, Rect};
@@ -11,7 +12,7 @@ pub struct Tile {
     pub display: Rank,
 }
 
-/// The tiles of a display: one to sixteen, with display ranks that differ.
+/// The tiles of a display: one to 64, with display ranks that differ.
 #[derive(Drop)]
 pub struct Layout {
     tiles: Vec<Tile>,
@@ -46,7 +47,7 @@ impl Layout {
         ensures count { result ≡ length self.now }
         ensures layout { IsLayoutOfViews self.now }
         ensures some { 1 ≤ result }
-        ensures few { result ≤ 16 }
+        ensures few { result ≤ MAX_TILES }
     {
         self.tiles.len() as u32
     }

@@ -1,7 +1,7 @@
 use Rattle.std.proofs.Common.{◌≡◌, Bool, true, false, not, refl, sym, ap, ◌∙◌}
 use Rattle.std.specs.Cmp.{nat_eq_equiv}
 use Rattle.std.specs.Cmp.Lexicographic.{lists_equiv}
-use Rattle.icet_model.specs.Words.{schedule_of}
+use Rattle.icet_scene_model.specs.Words.{schedule_of}
 use Rattle.icet_cli.proofs.command.read_named.Goals as goal
 
 other : (a b : Bool) → a ≡ not b → b ≡ not a

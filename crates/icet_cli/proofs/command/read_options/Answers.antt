@@ -4,8 +4,8 @@ use Rattle.std.proofs.lemmas.List.{take_rest}
 use Rattle.std.specs.Cmp.{nat_eq_equiv}
 use Rattle.std.specs.Cmp.Lexicographic.{lists_equiv}
 use Rattle.std.specs.Option.{option_and_then}
-use Rattle.icet_model.specs.Scene.{is_word}
-use Rattle.icet_model.specs.Words.{Job, cap_of, with_options, with_schedule}
+use Rattle.icet_scene_model.specs.Scene.{is_word}
+use Rattle.icet_scene_model.specs.Words.{Job, cap_of, with_options, with_schedule}
 use Rattle.icet_cli.specs.Commands.{job_view}
 use Rattle.icet_cli.proofs.Options.{no_cap}
 use Rattle.icet_cli.proofs.command.read_options.Goals as goal

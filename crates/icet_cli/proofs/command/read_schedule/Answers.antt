@@ -1,5 +1,5 @@
 use Rattle.std.proofs.Common.{◌≡◌, IfOk, subst, sym}
-use Rattle.icet_model.specs.Words.{with_schedule}
+use Rattle.icet_scene_model.specs.Words.{with_schedule}
 use Rattle.icet_cli.specs.Commands.{job_view}
 use Rattle.icet_cli.proofs.Options.{two_words}
 use Rattle.icet_cli.proofs.command.read_schedule.Goals as goal

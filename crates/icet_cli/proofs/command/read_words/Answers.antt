@@ -2,8 +2,8 @@ use Rattle.std.proofs.Common.{◌≡◌, ℕ, ◌≤◌, cond, List, [], ◌∷�
 use Rattle.std.specs.Prelude.{◌&&◌, codes}
 use Rattle.std.proofs.lemmas.List.{take_rest}
 use Rattle.std.specs.Option.{option_and_then}
-use Rattle.icet_model.specs.Scene.{is_word}
-use Rattle.icet_model.specs.Words.{command_of, job_of, with_options}
+use Rattle.icet_scene_model.specs.Scene.{is_word}
+use Rattle.icet_scene_model.specs.Words.{command_of, job_of, with_options}
 use Rattle.icet_cli.proofs.Options.{no_command}
 use Rattle.icet_cli.proofs.command.read_words.Goals as goal
 

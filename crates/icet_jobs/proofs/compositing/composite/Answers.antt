@@ -1,5 +1,5 @@
 use Rattle.std.proofs.Common.{◌++◌, sym, subst, ap, ◌∙◌, map}
-use Rattle.icet_model.specs.Scene.{SceneView}
+use Rattle.icet_scene_model.specs.Scene.{SceneView}
 use Rattle.icet_model.specs.Traffic.{traffic}
 use Rattle.icet_net.specs.Net.{pairs_of}
 use Rattle.icet_net.specs.Opening.{CanOpen, sides_of}

@@ -1,9 +1,9 @@
 use Rattle.std.proofs.Common.{length, sym, subst, ap, ◌∙◌}
 use Rattle.std.specs.Prelude.{All}
 use Rattle.std.proofs.lemmas.List.FromFn.{length-map-range_with_len}
-use Rattle.icet_model.specs.Scene.{SceneView}
-use Rattle.icet_model.specs.Boxes.{box}
-use Rattle.icet_model.specs.Jobs.{shapes_of}
+use Rattle.icet_scene_model.specs.Scene.{SceneView}
+use Rattle.icet_scene_model.specs.Boxes.{box}
+use Rattle.icet_scene_model.specs.Jobs.{shapes_of}
 use Rattle.icet_tiles.specs.Contributors.{HasEachOnce}
 use Rattle.icet_multi.specs.Strategies.{KeepsOrder}
 use Rattle.icet_jobs.proofs.SceneNets.{each_once, keep_order}

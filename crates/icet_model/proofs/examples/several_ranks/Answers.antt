@@ -9,6 +9,3 @@ returns-clause-nearest c = refl
 
 pub returns-clause-last_tie : goal.returns-clause-last_tie
 returns-clause-last_tie c = refl
-
-pub returns-clause-of_a_scene : goal.returns-clause-of_a_scene
-returns-clause-of_a_scene c = refl

@@ -1,17 +1,13 @@
-use Rattle.icet_model.proofs.Tries.{enabled, moved, stalled, finished, absent}
+use Rattle.icet_model.proofs.Tries.{enabled, moved, stalled, none_left, finished, beyond, absent}
 use Rattle.icet_model.proofs.laws.outcomes.Goals as goal
 
-pub returns-clause-enabled : goal.returns-clause-enabled
-returns-clause-enabled c = enabled
-
-pub returns-clause-moved : goal.returns-clause-moved
-returns-clause-moved c = moved
-
-pub returns-clause-stalled : goal.returns-clause-stalled
-returns-clause-stalled c = stalled
-
-pub returns-clause-done : goal.returns-clause-done
-returns-clause-done c = finished
-
-pub returns-clause-absent : goal.returns-clause-absent
-returns-clause-absent c = absent
+pub returns : goal.returns
+returns c = λ all cap done r. record {
+  enabled = enabled all cap done r;
+  moved = moved all cap done r;
+  stalled = stalled all cap done r;
+  none_left = none_left all cap done r;
+  finished = finished all cap done r;
+  beyond = beyond all cap done r;
+  absent = absent all cap done r;
+}

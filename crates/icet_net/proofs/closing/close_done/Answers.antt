@@ -17,19 +17,19 @@ close_pairs-requires-clause-distinct g c κs within = subst AreDistinct (sym (c.
 pub close_pairs-requires-clause-closable : goal.close_pairs-requires-clause-closable
 close_pairs-requires-clause-closable g c κs within =
     let v = c.hull.view_is in
-    let running = subst (AreRunning g.W.In.Inbox.taken g.W.In.Inbox.room g.W.Out.Outbox.sent g.W.Out.Outbox.room) c.deref.ensures.value c.look_at.ensures in
-    hull_closable _ _ _ _ _ _ c.args.hull c.args.ranks.items (subst IsHull v c.hull.invariant.hull_is) c.requires.hulls running c.requires.done _ _ _
-    (ap (map (λ p. reverse p.outboxes.items)) c.deref_mut.ensures.value ∙ c.take_apart-parts.ensures.outboxes)
-    (ap (map (λ p. reverse p.inboxes.items)) c.deref_mut.ensures.value ∙ c.take_apart-parts.ensures.inboxes)
+    let running = subst AreRunning c.deref.ensures.value c.look_at.ensures in
+    hull_closable c.args.hull c.args.ranks.items (subst IsHull v c.hull.invariant.hull_is) c.requires.hulls running c.requires.done _ _ _
+    (ap (map (λ p. reverse p.outboxes)) c.deref_mut.ensures.value ∙ c.take_apart-parts.ensures.outboxes)
+    (ap (map (λ p. reverse p.inboxes)) c.deref_mut.ensures.value ∙ c.take_apart-parts.ensures.inboxes)
     (c.deref-2.ensures.value ∙ ap (λ (h : HullView). h.pairs) v)
 
 pub show_all-requires-clause-ranks : goal.show_all-requires-clause-ranks
 show_all-requires-clause-ranks g c κs within =
-    let back : c.deref-3.result.now ≡ c.close_pairs.new.parts = c.deref-3.ensures.value ∙ write_back c.close_pairs.new.parts _ c.take_apart-parts.result.len (let a = ap length c.close_pairs.ensures.kept in let b = length-map c.close_pairs.new.parts (λ p. p.kept.items) in let d = length-map c.deref_mut.result.now (λ p. p.kept.items) in let e = ap length c.deref_mut.ensures.value in let o = c.take_apart-parts.result.ok.0 in omega (arith, a, b, d, e, o)) in
-    let kept = ap (map (λ p. p.kept.items)) back ∙ (c.close_pairs.ensures.kept ∙ (ap (map (λ p. p.kept.items)) c.deref_mut.ensures.value ∙ c.take_apart-parts.ensures.kept)) in
+    let back : c.deref-3.result.now ≡ c.close_pairs.new.parts = c.deref-3.ensures.value ∙ write_back c.close_pairs.new.parts _ c.take_apart-parts.result.len (let a = ap length c.close_pairs.ensures.kept in let b = length-map c.close_pairs.new.parts (λ p. p.kept) in let d = length-map c.deref_mut.result.now (λ p. p.kept) in let e = ap length c.deref_mut.ensures.value in let o = c.take_apart-parts.result.ok.0 in omega (arith, a, b, d, e, o)) in
+    let kept = ap (map (λ p. p.kept)) back ∙ (c.close_pairs.ensures.kept ∙ (ap (map (λ p. p.kept)) c.deref_mut.ensures.value ∙ c.take_apart-parts.ensures.kept)) in
     let a = ap length kept in
-    let b = length-map c.deref-3.result.now (λ p. p.kept.items) in
-    let d = length-map c.args.ranks.items (λ (m : MachineView g.row.W-In.Denot g.row.W-Out.Denot). m.kept) in
+    let b = length-map c.deref-3.result.now (λ p. p.kept) in
+    let d = length-map c.args.ranks.items (λ (m : MachineView). m.kept) in
     let e = c.requires.hulls.count in
     let f = ap (λ (h : HullView). length h.plan.programs) c.hull.view_is in
     omega (arith, a, b, d, e, f)
@@ -39,15 +39,15 @@ show_all-requires-clause-tiles g c κs within = rw (c.hull.invariant.canvases_ar
 
 pub show_all-requires-clause-showable : goal.show_all-requires-clause-showable
 show_all-requires-clause-showable g c κs within =
-    let back : c.deref-3.result.now ≡ c.close_pairs.new.parts = c.deref-3.ensures.value ∙ write_back c.close_pairs.new.parts _ c.take_apart-parts.result.len (let a = ap length c.close_pairs.ensures.kept in let b = length-map c.close_pairs.new.parts (λ p. p.kept.items) in let d = length-map c.deref_mut.result.now (λ p. p.kept.items) in let e = ap length c.deref_mut.ensures.value in let o = c.take_apart-parts.result.ok.0 in omega (arith, a, b, d, e, o)) in
-    let kept = ap (map (λ p. p.kept.items)) back ∙ (c.close_pairs.ensures.kept ∙ (ap (map (λ p. p.kept.items)) c.deref_mut.ensures.value ∙ c.take_apart-parts.ensures.kept)) in
+    let back : c.deref-3.result.now ≡ c.close_pairs.new.parts = c.deref-3.ensures.value ∙ write_back c.close_pairs.new.parts _ c.take_apart-parts.result.len (let a = ap length c.close_pairs.ensures.kept in let b = length-map c.close_pairs.new.parts (λ p. p.kept) in let d = length-map c.deref_mut.result.now (λ p. p.kept) in let e = ap length c.deref_mut.ensures.value in let o = c.take_apart-parts.result.ok.0 in omega (arith, a, b, d, e, o)) in
+    let kept = ap (map (λ p. p.kept)) back ∙ (c.close_pairs.ensures.kept ∙ (ap (map (λ p. p.kept)) c.deref_mut.ensures.value ∙ c.take_apart-parts.ensures.kept)) in
     let v = c.hull.view_is in
-    let running = subst (AreRunning g.W.In.Inbox.taken g.W.In.Inbox.room g.W.Out.Outbox.sent g.W.Out.Outbox.room) c.deref.ensures.value c.look_at.ensures in
-    let outs = ap (map (λ p. reverse p.outboxes.items)) c.deref_mut.ensures.value ∙ c.take_apart-parts.ensures.outboxes in
-    let ins = ap (map (λ p. reverse p.inboxes.items)) c.deref_mut.ensures.value ∙ c.take_apart-parts.ensures.inboxes in
+    let running = subst AreRunning c.deref.ensures.value c.look_at.ensures in
+    let outs = ap (map (λ p. reverse p.outboxes)) c.deref_mut.ensures.value ∙ c.take_apart-parts.ensures.outboxes in
+    let ins = ap (map (λ p. reverse p.inboxes)) c.deref_mut.ensures.value ∙ c.take_apart-parts.ensures.inboxes in
     let pairs = c.deref-2.ensures.value ∙ ap (λ (h : HullView). h.pairs) v in
-    let all = taken_of g.W.In.Inbox.taken g.W.Out.Outbox.sent _ _ _ _ _ _ outs ins pairs c.close_pairs.ensures.taken in
-    hull_showable _ _ _ _ _ _ c.args.hull c.args.ranks.items (subst IsHull v c.hull.invariant.hull_is) c.requires.hulls running c.requires.done all _ _ _ kept (c.hull.invariant.canvases_are ∙ ap (λ (h : HullView). blank_canvases h.sides h.strands) v) (ap (λ (h : HullView). h.plan.tiles) v)
+    let all = taken_of _ _ _ _ _ _ outs ins pairs c.close_pairs.ensures.taken in
+    hull_showable c.args.hull c.args.ranks.items (subst IsHull v c.hull.invariant.hull_is) c.requires.hulls running c.requires.done all _ _ _ kept (c.hull.invariant.canvases_are ∙ ap (λ (h : HullView). blank_canvases h.sides h.strands) v) (ap (λ (h : HullView). h.plan.tiles) v)
 
 pub show_all-requires-clause-memory : goal.show_all-requires-clause-memory
 show_all-requires-clause-memory g c κs within =
@@ -58,28 +58,28 @@ show_all-requires-clause-memory g c κs within =
 
 pub returns-clause-pictures : goal.returns-clause-pictures
 returns-clause-pictures g c =
-    let back : c.deref-3.result.now ≡ c.close_pairs.new.parts = c.deref-3.ensures.value ∙ write_back c.close_pairs.new.parts _ c.take_apart-parts.result.len (let a = ap length c.close_pairs.ensures.kept in let b = length-map c.close_pairs.new.parts (λ p. p.kept.items) in let d = length-map c.deref_mut.result.now (λ p. p.kept.items) in let e = ap length c.deref_mut.ensures.value in let o = c.take_apart-parts.result.ok.0 in omega (arith, a, b, d, e, o)) in
-    let kept = ap (map (λ p. p.kept.items)) back ∙ (c.close_pairs.ensures.kept ∙ (ap (map (λ p. p.kept.items)) c.deref_mut.ensures.value ∙ c.take_apart-parts.ensures.kept)) in
+    let back : c.deref-3.result.now ≡ c.close_pairs.new.parts = c.deref-3.ensures.value ∙ write_back c.close_pairs.new.parts _ c.take_apart-parts.result.len (let a = ap length c.close_pairs.ensures.kept in let b = length-map c.close_pairs.new.parts (λ p. p.kept) in let d = length-map c.deref_mut.result.now (λ p. p.kept) in let e = ap length c.deref_mut.ensures.value in let o = c.take_apart-parts.result.ok.0 in omega (arith, a, b, d, e, o)) in
+    let kept = ap (map (λ p. p.kept)) back ∙ (c.close_pairs.ensures.kept ∙ (ap (map (λ p. p.kept)) c.deref_mut.ensures.value ∙ c.take_apart-parts.ensures.kept)) in
     let v = c.hull.view_is in
-    let running = subst (AreRunning g.W.In.Inbox.taken g.W.In.Inbox.room g.W.Out.Outbox.sent g.W.Out.Outbox.room) c.deref.ensures.value c.look_at.ensures in
-    let outs = ap (map (λ p. reverse p.outboxes.items)) c.deref_mut.ensures.value ∙ c.take_apart-parts.ensures.outboxes in
-    let ins = ap (map (λ p. reverse p.inboxes.items)) c.deref_mut.ensures.value ∙ c.take_apart-parts.ensures.inboxes in
+    let running = subst AreRunning c.deref.ensures.value c.look_at.ensures in
+    let outs = ap (map (λ p. reverse p.outboxes)) c.deref_mut.ensures.value ∙ c.take_apart-parts.ensures.outboxes in
+    let ins = ap (map (λ p. reverse p.inboxes)) c.deref_mut.ensures.value ∙ c.take_apart-parts.ensures.inboxes in
     let pairs = c.deref-2.ensures.value ∙ ap (λ (h : HullView). h.pairs) v in
-    let all = taken_of g.W.In.Inbox.taken g.W.Out.Outbox.sent _ _ _ _ _ _ outs ins pairs c.close_pairs.ensures.taken in
-    c.of.ensures ∙ hull_pictures _ _ _ _ _ _ c.args.hull c.args.ranks.items (subst IsHull v c.hull.invariant.hull_is) c.requires.hulls running c.requires.done all _ _ _ _ kept (c.hull.invariant.canvases_are ∙ ap (λ (h : HullView). blank_canvases h.sides h.strands) v) (ap (λ (h : HullView). h.plan.tiles) v) c.show_all.ensures
+    let all = taken_of _ _ _ _ _ _ outs ins pairs c.close_pairs.ensures.taken in
+    c.of.ensures ∙ hull_pictures c.args.hull c.args.ranks.items (subst IsHull v c.hull.invariant.hull_is) c.requires.hulls running c.requires.done all _ _ _ _ kept (c.hull.invariant.canvases_are ∙ ap (λ (h : HullView). blank_canvases h.sides h.strands) v) (ap (λ (h : HullView). h.plan.tiles) v) c.show_all.ensures
 
 pub returns-clause-log : goal.returns-clause-log
 returns-clause-log g c =
     let v = c.hull.view_is in
-    let running = subst (AreRunning g.W.In.Inbox.taken g.W.In.Inbox.room g.W.Out.Outbox.sent g.W.Out.Outbox.room) c.deref.ensures.value c.look_at.ensures in
-    let outs = ap (map (λ p. reverse p.outboxes.items)) c.deref_mut.ensures.value ∙ c.take_apart-parts.ensures.outboxes in
-    let ins = ap (map (λ p. reverse p.inboxes.items)) c.deref_mut.ensures.value ∙ c.take_apart-parts.ensures.inboxes in
+    let running = subst AreRunning c.deref.ensures.value c.look_at.ensures in
+    let outs = ap (map (λ p. reverse p.outboxes)) c.deref_mut.ensures.value ∙ c.take_apart-parts.ensures.outboxes in
+    let ins = ap (map (λ p. reverse p.inboxes)) c.deref_mut.ensures.value ∙ c.take_apart-parts.ensures.inboxes in
     let pairs = c.deref-2.ensures.value ∙ ap (λ (h : HullView). h.pairs) v in
-    let all = taken_of g.W.In.Inbox.taken g.W.Out.Outbox.sent _ _ _ _ _ _ outs ins pairs c.close_pairs.ensures.taken in
+    let all = taken_of _ _ _ _ _ _ outs ins pairs c.close_pairs.ensures.taken in
     c.close_pairs.ensures.log
-    ∙ (ap (λ xs. g.W.Wires.log c.args.wires.now ++ map (entry_of g.W.Out.Outbox.sent xs) c.deref-2.result.now) outs
-    ∙ (ap (λ ps. g.W.Wires.log c.args.wires.now ++ map (entry_of g.W.Out.Outbox.sent (map (λ m. m.outboxes) c.args.ranks.items)) ps) pairs
-    ∙ ap (λ xs. g.W.Wires.log c.args.wires.now ++ xs) (log_is _ _ _ _ _ _ c.args.hull c.args.ranks.items (subst IsHull v c.hull.invariant.hull_is) c.requires.hulls running c.requires.done all)))
+    ∙ (ap (λ xs. g.W.Wires.log c.args.wires.now ++ map (entry_of xs) c.deref-2.result.now) outs
+    ∙ (ap (λ ps. g.W.Wires.log c.args.wires.now ++ map (entry_of (map (λ m. m.outboxes) c.args.ranks.items)) ps) pairs
+    ∙ ap (λ xs. g.W.Wires.log c.args.wires.now ++ xs) (log_is c.args.hull c.args.ranks.items (subst IsHull v c.hull.invariant.hull_is) c.requires.hulls running c.requires.done all)))
 
 pub returns-clause-owed : goal.returns-clause-owed
 returns-clause-owed g c = let o = c.close_pairs.ensures.owed in let e = ap length (c.deref-2.ensures.value ∙ ap (λ (h : HullView). h.pairs) c.hull.view_is) in omega (arith, o, e)

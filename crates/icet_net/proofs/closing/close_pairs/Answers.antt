@@ -9,7 +9,7 @@ pub close_one-requires-clause-closable : goal.close_one-requires-clause-closable
 close_one-requires-clause-closable g c κs within =
     let at = pair_read c.args.pairs.now c.closing.i c.index-pairs-i.result c.closing-test.true c.index-pairs-i.is in
     let p = c.closing.invariant.ports in
-    still_closable _ _ _ _ _ _ _ _ _ _ p.out_count p.in_count (p.outs c.closing.i _ (omega arith) at) (p.ins c.closing.i _ (omega arith) at) (c.requires.closable c.closing.i _ at)
+    still_closable _ _ _ _ _ _ p.out_count p.in_count (p.outs c.closing.i _ (omega arith) at) (p.ins c.closing.i _ (omega arith) at) (c.requires.closable c.closing.i _ at)
 
 pub closing-preserved : goal.closing-preserved
 closing-preserved g c =
@@ -20,8 +20,8 @@ closing-preserved g c =
     record {
       ports = keeps_more _ c.requires.distinct _ _ _ _ _ _ c.closing.i x at v.ports e.outboxes e.inboxes;
       kept = e.kept ∙ v.kept;
-      taken = pairs_more _ c.args.pairs.now c.closing.i x at (taken_before g.W.In.Inbox.taken g.W.Out.Outbox.sent _ _ _ _ _ c.closing.i x at v.ports e.taken) v.taken;
-      log = log_more _ c.args.pairs.now c.closing.i c.index-pairs-i.result _ _ _ _ c.closing-test.true e.log (entry_before g.W.In.Inbox.taken g.W.Out.Outbox.sent _ _ _ _ _ c.closing.i x at v.ports ∙ ap (entry_of g.W.Out.Outbox.sent _) c.index-pairs-i.is) v.log;
+      taken = pairs_more _ c.args.pairs.now c.closing.i x at (taken_before _ _ _ _ _ c.closing.i x at v.ports e.taken) v.taken;
+      log = log_more _ c.args.pairs.now c.closing.i c.index-pairs-i.result _ _ _ _ c.closing-test.true e.log (entry_before _ _ _ _ _ c.closing.i x at v.ports ∙ ap (entry_of _) c.index-pairs-i.is) v.log;
       owed = let a = e.owed in let b = v.owed in omega (arith, a, b);
     }
 

@@ -27,10 +27,10 @@ pub returns-clause-hulls : goal.returns-clause-hulls
 returns-clause-hulls g c =
     let p = c.in_ok-ports.ensures in
     let m = c.in_ok-machines.ensures in
-    started_hulls g.W.In.Inbox.pairing g.W.Out.Outbox.pairing _ c.args.mode c.args.images.items c.in_ok-ports.ports.inboxes.items c.in_ok-ports.ports.outboxes.items c.in_ok-machines.machines.items c.ranks-ranks.ensures.plan m.count (λ r l. all_at (AreWholeImages c.args.plan.tiles.sizes) c.args.images.items r [] c.requires.fits.whole (let e = c.requires.fits.count in omega (arith, e, l))) m.started p.paired
+    started_hulls _ c.args.mode c.args.images.items c.in_ok-ports.ports.inboxes.items c.in_ok-ports.ports.outboxes.items c.in_ok-machines.machines.items c.ranks-ranks.ensures.plan m.count (λ r l. all_at (AreWholeImages c.args.plan.tiles.sizes) c.args.images.items r [] c.requires.fits.whole (let e = c.requires.fits.count in omega (arith, e, l))) m.all p.paired
 
 pub returns-clause-opened : goal.returns-clause-opened
-returns-clause-opened g c = opened_with c.args.plan c.args.mode c.args.images.items c.in_ok-ports.ports.inboxes.items c.in_ok-ports.ports.outboxes.items c.in_ok-machines.machines.items c.in_ok-machines.ensures.count c.requires.fits.count c.in_ok-machines.ensures.started
+returns-clause-opened g c = opened_with c.args.plan c.args.mode c.args.images.items c.in_ok-ports.ports.inboxes.items c.in_ok-ports.ports.outboxes.items c.in_ok-machines.machines.items c.in_ok-machines.ensures.count c.requires.fits.count c.in_ok-machines.ensures.all
 
 pub machines_of-requires-clause-count : goal.machines_of-requires-clause-count
 machines_of-requires-clause-count g c κs l = c.requires.fits.count

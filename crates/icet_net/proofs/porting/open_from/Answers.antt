@@ -19,7 +19,7 @@ reaching-preserved g c =
     let t = total_is c.args.plan.now c.args.from c.reaching.to _ _ _ l k.count k.counts c.index.ensures in
     record {
       pairs = pairs_more c.args.plan.now _ _ c.args.from c.reaching.to _ t e.pairs _ i.pairs;
-      opened = reaches_at _ _ _ _ _ _ _ _ _ _ _ _ _ _ _ _ _ _ _ _ l k.count k.counts c.index.ensures c.index_mut.ensures.value i.opened e.ins e.outs e.out_others e.in_others e.paired;
+      opened = reaches_at _ _ _ _ _ _ _ _ _ _ _ _ _ _ l k.count k.counts c.index.ensures c.index_mut.ensures.value i.opened e.ins e.outs e.out_others e.in_others e.paired;
       log = e.log ∙ i.log;
       owed = owed_more c.args.plan.now c.args.from c.reaching.to _ _ _ _ t e.owed i.owed;
     }
@@ -37,7 +37,7 @@ returns-clause-inboxes g c =
 pub returns-clause-outboxes : goal.returns-clause-outboxes
 returns-clause-outboxes g c =
     let e = at_end _ _ _ c.reaching-test.false c.reaching.auto.to-end c.ranks-to-end.ensures.ranks in
-    subst (λ n. AreNewPorts g.W.Out.Outbox.sent g.W.Out.Outbox.room (λ r. messages_on c.args.plan.now c.args.from r) n c.reaching.outs) e c.reaching.invariant.opened.new_outs
+    subst (λ n. AreNewPorts (λ r. messages_on c.args.plan.now c.args.from r) n c.reaching.outs) e c.reaching.invariant.opened.new_outs
 
 pub returns-clause-paired : goal.returns-clause-paired
 returns-clause-paired g c =

@@ -12,7 +12,7 @@ at_end from end n l m e = omega arith
 pub opening-init : goal.opening-init
 opening-init g c =
     let e = rw c.ranks.ensures.ranks at c.in_ok-inboxes.ensures in
-    record { pairs = c.new-pairs.ensures.items; opened = rw c.new-outboxes.ensures.items (opens_none _ _ _ _ _ _ _ _ _ e (ap length e ∙ length-replicate _ _)); log = refl; owed = search rules }
+    record { pairs = c.new-pairs.ensures.items; opened = rw c.new-outboxes.ensures.items (opens_none _ _ _ e (ap length e ∙ length-replicate _ _)); log = refl; owed = search rules }
 
 pub opening-preserved : goal.opening-preserved
 opening-preserved g c =
@@ -20,7 +20,7 @@ opening-preserved g c =
     let e = c.in_ok-outs.ensures in
     record {
       pairs = senders_more c.args.plan.now _ _ c.opening.from e.pairs i.pairs;
-      opened = subst (λ outs. Opens g.W.In.Inbox.taken g.W.In.Inbox.room g.W.In.Inbox.pairing g.W.Out.Outbox.sent g.W.Out.Outbox.room g.W.Out.Outbox.pairing c.args.plan.now c.args.cap (c.opening.from + 1) c.open_from.new.inboxes.items outs) (sym c.in_ok-push.ensures.items) (opens_more _ _ _ _ _ _ _ _ _ _ _ _ _ i.opened e.in_count e.inboxes e.others e.outboxes e.paired);
+      opened = subst (λ outs. Opens c.args.plan.now c.args.cap (c.opening.from + 1) c.open_from.new.inboxes.items outs) (sym c.in_ok-push.ensures.items) (opens_more _ _ _ _ _ _ _ i.opened e.in_count e.inboxes e.others e.outboxes e.paired);
       log = e.log ∙ i.log;
       owed = senders_owed c.args.plan.now c.opening.from _ _ _ e.owed i.owed;
     }
@@ -33,7 +33,7 @@ returns-clause-pairs g c =
 pub returns-clause-inboxes : goal.returns-clause-inboxes
 returns-clause-inboxes g c =
     let e = at_end _ _ _ c.opening-test.false c.opening.auto.from-end c.ranks-from-end.ensures.ranks in
-    λ r l. subst (λ n. AreNewPorts g.W.In.Inbox.taken g.W.In.Inbox.room (λ q. messages_on c.args.plan.now q r) n (ports_of c.opening.inboxes.items r)) e (c.opening.invariant.opened.new_ins r l)
+    λ r l. subst (λ n. AreNewPorts (λ q. messages_on c.args.plan.now q r) n (ports_of c.opening.inboxes.items r)) e (c.opening.invariant.opened.new_ins r l)
 
 pub returns-clause-outboxes : goal.returns-clause-outboxes
 returns-clause-outboxes g c =

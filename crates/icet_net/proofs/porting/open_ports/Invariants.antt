@@ -7,7 +7,7 @@ use Rattle.icet_net.proofs.porting.open_ports.Given as goal
 abbrev pub invariant-opening : goal.invariant-opening
 invariant-opening g l = record {
   pairs : l.pairs.items ≡ flat_map (pairs_from l.plan (length l.plan.programs)) (range_with_len 0 l.from);
-  opened : Opens g.W.In.Inbox.taken g.W.In.Inbox.room g.W.In.Inbox.pairing g.W.Out.Outbox.sent g.W.Out.Outbox.room g.W.Out.Outbox.pairing l.plan l.cap l.from l.inboxes.items l.outboxes.items;
+  opened : Opens l.plan l.cap l.from l.inboxes.items l.outboxes.items;
   log : g.W.Wires.log l.wires ≡ g.W.Wires.log l.fn.wires;
   owed : g.W.Wires.owed l.wires ≡ g.W.Wires.owed l.fn.wires + length (flat_map (pairs_from l.plan (length l.plan.programs)) (range_with_len 0 l.from));
 }

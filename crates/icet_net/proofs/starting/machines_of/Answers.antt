@@ -15,13 +15,13 @@ pub start-requires-clause-ins : goal.start-requires-clause-ins
 start-requires-clause-ins g c κs within =
     let i = c.starting.invariant in
     let l : c.starting.rank < length c.args.plan.now.programs = (let t = c.starting-test.true in let r = c.ranks-rank-end.ensures.ranks in omega (arith, t, r)) in
-    subst (AreNewPorts g.I.Inbox.taken g.I.Inbox.room (λ q. messages_on c.args.plan.now q c.starting.rank) (length c.args.plan.now.programs)) (drop_head _ _ c.starting.rank _ [] (sym i.ins ∙ c.next_of-in-starting.ensures.items)).0 (c.requires.inboxes c.starting.rank l)
+    subst (AreNewPorts (λ q. messages_on c.args.plan.now q c.starting.rank) (length c.args.plan.now.programs)) (drop_head _ _ c.starting.rank _ [] (sym i.ins ∙ c.next_of-in-starting.ensures.items)).0 (c.requires.inboxes c.starting.rank l)
 
 pub start-requires-clause-outs : goal.start-requires-clause-outs
 start-requires-clause-outs g c κs within =
     let i = c.starting.invariant in
     let l : c.starting.rank < length c.args.plan.now.programs = (let t = c.starting-test.true in let r = c.ranks-rank-end.ensures.ranks in omega (arith, t, r)) in
-    subst (AreNewPorts g.O.Outbox.sent g.O.Outbox.room (λ r. messages_on c.args.plan.now c.starting.rank r) (length c.args.plan.now.programs)) (drop_head _ _ c.starting.rank _ [] (sym i.outs ∙ c.next_of-in-starting-2.ensures.items)).0 (c.requires.outboxes c.starting.rank l)
+    subst (AreNewPorts (λ r. messages_on c.args.plan.now c.starting.rank r) (length c.args.plan.now.programs)) (drop_head _ _ c.starting.rank _ [] (sym i.outs ∙ c.next_of-in-starting-2.ensures.items)).0 (c.requires.outboxes c.starting.rank l)
 
 pub starting-preserved : goal.starting-preserved
 starting-preserved g c =

@@ -4,4 +4,4 @@ use Rattle.icet_net.proofs.Looks.{one_more}
 use Rattle.icet_net.proofs.syncing.look_at.Goals as goal
 
 pub looking-preserved : goal.looking-preserved
-looking-preserved g c = one_more (λ m. IsRunning g.I.Inbox.taken g.I.Inbox.room g.O.Outbox.sent g.O.Outbox.room m) c.args.ranks.now c.looking.i c.index-ranks-i.result c.looking-test.true (subst (λ m. IsRunning g.I.Inbox.taken g.I.Inbox.room g.O.Outbox.sent g.O.Outbox.room m) c.index-ranks-i.is c.number-number.ensures.running) c.looking.invariant
+looking-preserved g c = one_more (λ m. IsRunning m) c.args.ranks.now c.looking.i c.index-ranks-i.result c.looking-test.true (subst (λ m. IsRunning m) c.index-ranks-i.is c.number-number.ensures.running) c.looking.invariant

@@ -4,4 +4,4 @@ use Rattle.icet_net.specs.Ranks.{machine_at}
 use Rattle.icet_net.proofs.syncing.look_at.Given as goal
 
 abbrev pub invariant-looking : goal.invariant-looking
-invariant-looking g l = (r : ℕ) → r < l.i → IsRunning g.I.Inbox.taken g.I.Inbox.room g.O.Outbox.sent g.O.Outbox.room (machine_at l.ranks r)
+invariant-looking g l = (r : ℕ) → r < l.i → IsRunning (machine_at l.ranks r)

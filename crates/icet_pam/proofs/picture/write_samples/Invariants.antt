@@ -1,10 +1,8 @@
-use Rattle.std.proofs.Common.{◌≡◌, take}
-use Rattle.icet_model.specs.Picture.{sample_bytes}
-use Rattle.icet_base.specs.PenText.{text_of}
-use Rattle.icet_pam.specs.Writing.{HasPut}
+use Rattle.std.proofs.Common.{take, Ok}
+use Rattle.icet_scene_model.specs.Picture.{sample_bytes}
+use Rattle.icet_base.specs.PenText.{Puts}
 use Rattle.icet_pam.proofs.picture.write_samples.Given as goal
 
 abbrev pub invariant-loop-pixel : goal.invariant-loop-pixel
 invariant-loop-pixel g l =
-    HasPut (g.K.Sink.written l.initial.pen.sink.now) (g.K.Sink.written l.pen.sink.now) (text_of (g.K.Sink.written l.initial.pen.sink.now) l.initial.pen.waiting.items) (text_of (g.K.Sink.written l.pen.sink.now) l.pen.waiting.items) (sample_bytes l.mode l.background (take l.pixel-index l.pixels)) (g.K.Sink.faults l.initial.pen.sink.now) (g.K.Sink.faults l.pen.sink.now) l.pen.failed
-    × (l.pen.sink.ghost_name ≡ l.initial.pen.sink.ghost_name)
+    Puts g.K.Sink.told l.initial.pen l.pen (Ok tt) (sample_bytes l.mode l.background (take l.pixel-index l.pixels))

@@ -1,4 +1,4 @@
-use Rattle.icet_rank.proofs.Local.{cut_is}
+use Rattle.icet_rank.proofs.LocalWork.{cut_is}
 use Rattle.icet_rank.proofs.slots.cut_slot.Goals as goal
 
 pub returns-clause-ok : goal.returns-clause-ok

@@ -1,5 +1,5 @@
 use Rattle.std.proofs.Common.{Some}
-use Rattle.icet_rank.proofs.Local.{three_puts}
+use Rattle.icet_rank.proofs.LocalWork.{three_puts}
 use Rattle.icet_rank.proofs.slots.put_joined.Goals as goal
 
 pub returns-clause-slots : goal.returns-clause-slots

@@ -2,7 +2,7 @@ use Rattle.std.proofs.Common.{◌≡◌, ℕ, ◌≤◌, List, length, map, take
 use Rattle.std.proofs.lemmas.List.{take_all}
 use Rattle.std.proofs.lemmas.Grind.{common_steps}
 use Rattle.icet_model.specs.declared.names.Rect.{Rect}
-use Rattle.icet_model.specs.Boxes.{box}
+use Rattle.icet_scene_model.specs.Boxes.{box}
 use Rattle.icet_raster.specs.declared.shape.Shape.{Shape}
 use Rattle.icet_raster.specs.Boxes.{IsBoxSoFar}
 use Rattle.icet_raster.specs.Shapes.{drawing_of}
@@ -23,4 +23,4 @@ pub returns-clause-least : goal.returns-clause-least
 returns-clause-least c = box_least c.loop-shape.least (map drawing_of c.args.shapes.now) (at_end c.loop-shape.least c.args.shapes.now c.loop-shape.shape-index c.loop-shape.invariant c.loop-shape-test.false)
 
 pub loop-shape-preserved : goal.loop-shape-preserved
-loop-shape-preserved c = record { value = grind (arith, common_steps); area = grind (arith, common_steps) }
+loop-shape-preserved c = record { value = grind (arith, common_steps); near = grind (arith, common_steps) }

@@ -1,5 +1,6 @@
 use Rattle.std.proofs.Common.{◌≡◌, ℕ, ◌<◌, ◌+◌, ◌++◌, ◌∷◌, [], List, length, take, drop, refl, sym, ap, ◌∙◌, arith}
 use Rattle.std.proofs.lemmas.List.{length-append, length-take, length-take-le, take-append-le, drop-append-le, take_more}
+use Rattle.icet_model.specs.Wires.{PortView, PortMet}
 use Rattle.icet_ring.specs.Mem.{outbox_view, inbox_view}
 use Rattle.icet_ring.proofs.mem_ports.carry.Goals as goal
 
@@ -17,6 +18,10 @@ pair : (c : goal.After-out-1) →
     ≡ (inbox_view n.opening.from n.opening.to n.opening.cap n.opening.total n.carried.items n.ready.items n.taken n.seen n.misses).pairing
 pair c = rw (← c.out.view_is, ← c.inbox.view_is) at c.requires.paired
 
+-- a port that nothing happened to
+unmoved : (p : PortView) → PortMet p p
+unmoved p = record { messages = refl; room = refl; misses = refl; opening = record { from = refl; to = refl; cap = refl; total = refl; rings = refl } }
+
 -- the inbox has so many as were carried
 count : (c : goal.After-out-1) → length c.inbox.inside.carried.items ≡ c.out.inside.carried
 count c = sym (ap (λ p. length p.agreed) (pair c)) ∙ length-take-le c.out.inside.carried c.out.inside.sent.items c.out.invariant.behind
@@ -28,24 +33,10 @@ one_more c =
     ∙ ap (λ m. take o.carried o.sent.items ++ m ∷ []) (sym c.index-message.ensures ∙ sym c.in_ok-kept.ensures)
 
 pub returns-in_err-kept-clause-goes_on : goal.returns-in_err-kept-clause-goes_on
-returns-in_err-kept-clause-goes_on c = record {
-  paired = c.requires.paired;
-  opening = record { from = refl; to = refl; cap = refl; total = refl };
-  sent = refl;
-  taken = refl;
-  out_room = refl;
-  in_room = refl;
-}
+returns-in_err-kept-clause-goes_on c = record { paired = c.requires.paired; out = unmoved _; inbox = unmoved _ }
 
 pub returns-in_err-waiting-clause-goes_on : goal.returns-in_err-waiting-clause-goes_on
-returns-in_err-waiting-clause-goes_on c = record {
-  paired = c.requires.paired;
-  opening = record { from = refl; to = refl; cap = refl; total = refl };
-  sent = refl;
-  taken = refl;
-  out_room = refl;
-  in_room = refl;
-}
+returns-in_err-waiting-clause-goes_on c = record { paired = c.requires.paired; out = unmoved _; inbox = unmoved _ }
 
 pub invariant_of-out : goal.invariant_of-out
 invariant_of-out c =
@@ -75,19 +66,33 @@ invariant_of-inbox c =
 
 pub returns-clause-goes_on : goal.returns-clause-goes_on
 returns-clause-goes_on c = record {
-  paired = rw (one_more c, c.push_reserved.ensures.items) (ap (λ p. record { from = p.from; to = p.to; cap = p.cap; total = p.total; agreed = p.agreed ++ c.in_ok-kept.kept ∷ []; seen = p.seen }) (pair c));
-  opening = record {
-    from = ap (λ v. v.pairing.from) c.out.view_is;
-    to = ap (λ v. v.pairing.to) c.out.view_is;
-    cap = ap (λ v. v.pairing.cap) c.out.view_is;
-    total = ap (λ v. v.pairing.total) c.out.view_is;
+  paired = rw (one_more c, c.push_reserved.ensures.items) (ap (λ p. record { from = p.from; to = p.to; cap = p.cap; total = p.total; agreed = p.agreed ++ c.in_ok-kept.kept ∷ []; seen = p.seen; rings = p.rings }) (pair c));
+  out = record {
+    messages = ap (λ v. v.messages) c.out.view_is;
+    room = ap (λ v. v.room) c.out.view_is;
+    misses = ap (λ v. v.misses) c.out.view_is;
+    opening = record {
+      from = ap (λ v. v.pairing.from) c.out.view_is;
+      to = ap (λ v. v.pairing.to) c.out.view_is;
+      cap = ap (λ v. v.pairing.cap) c.out.view_is;
+      total = ap (λ v. v.pairing.total) c.out.view_is;
+      rings = ap (λ v. v.pairing.rings) c.out.view_is;
+    };
   };
-  sent = ap (λ v. v.messages) c.out.view_is;
-  taken =
-      rw (c.push_reserved.ensures.items, take-append-le c.inbox.inside.taken c.inbox.inside.carried.items (c.in_ok-kept.kept ∷ []) c.inbox.invariant.behind)
-      (ap (λ v. v.messages) c.inbox.view_is);
-  out_room = ap (λ v. v.room) c.out.view_is;
-  in_room = ap (λ v. v.room) c.inbox.view_is;
+  inbox = record {
+    messages =
+        rw (c.push_reserved.ensures.items, take-append-le c.inbox.inside.taken c.inbox.inside.carried.items (c.in_ok-kept.kept ∷ []) c.inbox.invariant.behind)
+        (ap (λ v. v.messages) c.inbox.view_is);
+    room = ap (λ v. v.room) c.inbox.view_is;
+    misses = ap (λ v. v.misses) c.inbox.view_is;
+    opening = record {
+      from = ap (λ v. v.pairing.from) c.inbox.view_is;
+      to = ap (λ v. v.pairing.to) c.inbox.view_is;
+      cap = ap (λ v. v.pairing.cap) c.inbox.view_is;
+      total = ap (λ v. v.pairing.total) c.inbox.view_is;
+      rings = ap (λ v. v.pairing.rings) c.inbox.view_is;
+    };
+  };
 }
 
 pub returns-clause-one : goal.returns-clause-one

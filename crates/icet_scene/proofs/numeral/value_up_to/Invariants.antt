@@ -1,5 +1,5 @@
 use Rattle.std.proofs.Common.{◌≡◌, ◌≤◌, take}
-use Rattle.icet_model.specs.Numeral.{value_from}
+use Rattle.icet_scene_model.specs.Numeral.{value_from}
 use Rattle.icet_scene.proofs.numeral.value_up_to.Given as goal
 
 abbrev pub invariant-loop-digit : goal.invariant-loop-digit

@@ -2,7 +2,7 @@ use Rattle.std.proofs.Common.{◌≡◌, map, take}
 use Rattle.std.specs.Prelude.{All}
 use Rattle.icet_raster.specs.Shapes.{drawing_of, IsInRange}
 use Rattle.icet_scene.specs.Lines.{placed_of}
-use Rattle.icet_model.specs.Jobs.{shapes_of}
+use Rattle.icet_scene_model.specs.Jobs.{shapes_of}
 use Rattle.icet_scene.proofs.scene.own_shapes.Given as goal
 
 abbrev pub invariant-loop-drawer : goal.invariant-loop-drawer

@@ -1,5 +1,5 @@
 use Rattle.std.proofs.Common.{◌≡◌, take}
-use Rattle.icet_model.specs.Boxes.{contributors}
+use Rattle.icet_scene_model.specs.Boxes.{contributors}
 use Rattle.icet_model.specs.Tiles.{area_of}
 use Rattle.icet_tiles.proofs.contributors.contributors_to.Given as goal
 

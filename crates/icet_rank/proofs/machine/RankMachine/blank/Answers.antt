@@ -1,7 +1,7 @@
 use Rattle.std.proofs.Common.{◌<◌, ◌∙◌, ap, arith, length}
 use Rattle.icet_model.specs.Run.{blank_of}
 use Rattle.icet_rank.specs.Machine.{carrier_of}
-use Rattle.icet_rank.proofs.Now.{blank_there, named, next_place, blanked}
+use Rattle.icet_rank.proofs.MachineMoves.{blank_there, named, next_place, blanked}
 use Rattle.icet_rank.proofs.machine.RankMachine.blank.Goals as goal
 
 pub part-requires : goal.part-requires

@@ -1,6 +1,6 @@
 use Rattle.std.proofs.Common.{◌≡◌, rules, arith, length}
-use Rattle.icet_rank.proofs.Now.{cut_fits, named, next_place, cut_done}
-use Rattle.icet_rank.proofs.Keeps.{written}
+use Rattle.icet_rank.proofs.MachineMoves.{cut_fits, named, next_place, cut_done}
+use Rattle.icet_rank.proofs.RunsOn.{written}
 use Rattle.icet_rank.proofs.machine.RankMachine.cut.Goals as goal
 
 pub cut_slot-requires-clause-slot : goal.cut_slot-requires-clause-slot

@@ -1,6 +1,6 @@
 use Rattle.std.proofs.Common.{◌≡◌, rules, arith, length}
-use Rattle.icet_rank.proofs.Now.{join_fits, named, next_place, join_done}
-use Rattle.icet_rank.proofs.Keeps.{written}
+use Rattle.icet_rank.proofs.MachineMoves.{join_fits, named, next_place, join_done}
+use Rattle.icet_rank.proofs.RunsOn.{written}
 use Rattle.icet_rank.proofs.machine.RankMachine.join.Goals as goal
 
 pub joined-requires-clause-front : goal.joined-requires-clause-front

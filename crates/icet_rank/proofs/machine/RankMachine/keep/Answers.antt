@@ -1,8 +1,8 @@
 use Rattle.std.proofs.Common.{◌≡◌, ◌<◌, [], ◌∷◌, ◌++◌, Some, sym, ◌∙◌, subst, rules, arith, length}
 use Rattle.icet_model.specs.Ports.{at_list}
 use Rattle.icet_rank.specs.Fits.{IsFilled}
-use Rattle.icet_rank.proofs.Now.{keep_filled, named, next_place, keep_done}
-use Rattle.icet_rank.proofs.Local.{list_at}
+use Rattle.icet_rank.proofs.MachineMoves.{keep_filled, named, next_place, keep_done}
+use Rattle.icet_rank.proofs.LocalWork.{list_at}
 use Rattle.icet_rank.proofs.machine.RankMachine.keep.Goals as goal
 
 pub index-requires : goal.index-requires

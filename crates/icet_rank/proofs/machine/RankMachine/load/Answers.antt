@@ -1,5 +1,5 @@
 use Rattle.std.proofs.Common.{◌≡◌, ◌<◌, Some, sym, ◌∙◌, ap, rules, arith, length}
-use Rattle.icet_rank.proofs.Now.{tile_there, named, next_place, loaded}
+use Rattle.icet_rank.proofs.MachineMoves.{tile_there, named, next_place, loaded}
 use Rattle.icet_rank.proofs.machine.RankMachine.load.Goals as goal
 
 pub part-requires : goal.part-requires

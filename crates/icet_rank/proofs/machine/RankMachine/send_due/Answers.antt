@@ -1,10 +1,7 @@
 use Rattle.std.proofs.Common.{refl, ◌≡◌, ◌∙◌, rules, arith, length}
-use Rattle.icet_rank.proofs.Now.{named, next_place, next_counter, due_exchange, send_filled, send_filled_seen, send_room, send_peer, send_done, send_waits}
-use Rattle.icet_rank.proofs.Keeps.{written}
+use Rattle.icet_rank.proofs.MachineMoves.{named, next_place, next_counter, due_exchange, send_filled, send_filled_seen, send_room, send_done, send_waits}
+use Rattle.icet_rank.proofs.RunsOn.{written}
 use Rattle.icet_rank.proofs.machine.RankMachine.send_due.Goals as goal
-
-pub place_of-at-requires : goal.place_of-at-requires
-place_of-at-requires g c = rw c.deref.ensures.value (send_peer c.self.invariant c.self.view_is c.requires.due c.requires.kind)
 
 pub send-moved-requires-clause-slot : goal.send-moved-requires-clause-slot
 send-moved-requires-clause-slot g c κs within = rw c.deref_mut.ensures.value (named c.self.invariant c.self.view_is c.requires.due)
@@ -12,11 +9,11 @@ send-moved-requires-clause-slot g c κs within = rw c.deref_mut.ensures.value (n
 pub send-moved-requires-clause-filled : goal.send-moved-requires-clause-filled
 send-moved-requires-clause-filled g c κs within = rw c.deref_mut.ensures.value (send_filled c.self.invariant c.self.view_is c.requires.due c.requires.kind)
 
-pub send-moved-requires-clause-there : goal.send-moved-requires-clause-there
-send-moved-requires-clause-there g c κs within = rw (c.deref_mut-2.ensures.value, ← c.deref.ensures.value) c.place_of-at.ensures.there
+pub send-moved-requires-clause-ascend : goal.send-moved-requires-clause-ascend
+send-moved-requires-clause-ascend g c κs within = c.self.invariant.runs.out_ascend
 
 pub send-moved-requires-clause-room : goal.send-moved-requires-clause-room
-send-moved-requires-clause-room g c κs within = rw c.deref_mut-2.ensures.value (send_room c.self.invariant c.self.view_is c.requires.due c.requires.kind)
+send-moved-requires-clause-room g c κs within = send_room c.self.invariant c.self.view_is c.requires.due c.requires.kind
 
 pub overflow_add-self : goal.overflow_add-self
 overflow_add-self g c = let l = next_place c.self.invariant c.self.view_is c.requires.due in grind (arith, l)
@@ -28,25 +25,22 @@ pub invariant_of-self : goal.invariant_of-self
 invariant_of-self g c =
     let s : length c.send-moved.new.slots ≡ c.self.inside.slots.len = search rules in
     let l : length c.send-moved.new.slots ≡ length c.self.inside.slots.items = search rules in
-    let p : length c.send-moved.new.ports ≡ c.self.inside.outboxes.len = search rules in
-    let sent = rw (c.deref_mut.ensures.value, c.deref_mut-2.ensures.value) at (c.send-moved.ensures.sent c.if-moved.true) in
+    let sent = rw c.deref_mut.ensures.value at (c.send-moved.ensures.sent c.if-moved.true) in
     let slots = rw c.deref_mut.ensures.value at (c.send-moved.ensures.slots c.if-moved.true) in
-    rw (written c.self.inside.slots.len c.send-moved.new.slots c.self.inside.slots.items s, written c.self.inside.outboxes.len c.send-moved.new.ports c.self.inside.outboxes.items p)
-    (send_done c.self.invariant c.self.view_is c.requires.due c.requires.kind c.send-moved.new.slots c.send-moved.new.ports slots l sent)
+    rw (written c.self.inside.slots.len c.send-moved.new.slots c.self.inside.slots.items s)
+    (send_done c.self.invariant c.self.view_is c.requires.due c.requires.kind c.send-moved.new.slots c.send-moved.new.outboxes slots l sent)
 
 pub invariant_of-self-else-moved : goal.invariant_of-self-else-moved
 invariant_of-self-else-moved g c =
     let s : length c.send-moved.new.slots ≡ c.self.inside.slots.len = search rules in
-    let p : length c.send-moved.new.ports ≡ c.self.inside.outboxes.len = search rules in
-    let missed = rw c.deref_mut-2.ensures.value at (c.send-moved.ensures.miss c.if-moved.false) in
-    rw (written c.self.inside.slots.len c.send-moved.new.slots c.self.inside.slots.items s, written c.self.inside.outboxes.len c.send-moved.new.ports c.self.inside.outboxes.items p)
-    (send_waits c.self.invariant c.send-moved.new.slots c.send-moved.new.ports (c.send-moved.ensures.back c.if-moved.false ∙ c.deref_mut.ensures.value) missed)
+    let missed = c.send-moved.ensures.missed c.if-moved.false in
+    rw (written c.self.inside.slots.len c.send-moved.new.slots c.self.inside.slots.items s)
+    (send_waits c.self.invariant c.send-moved.new.slots c.send-moved.new.outboxes (c.send-moved.ensures.back c.if-moved.false ∙ c.deref_mut.ensures.value) missed)
 
 pub returns-then-moved-clause-moved : goal.returns-then-moved-clause-moved
 returns-then-moved-clause-moved g c =
-    let p : length c.send-moved.new.ports ≡ c.self.inside.outboxes.len = search rules in
-    let sent = rw (c.deref_mut.ensures.value, c.deref_mut-2.ensures.value) at (c.send-moved.ensures.sent c.if-moved.true) in
-    rw (written c.self.inside.outboxes.len c.send-moved.new.ports c.self.inside.outboxes.items p, ← c.self.view_is) (λ _ x full. sent x full)
+    let sent = rw c.deref_mut.ensures.value at (c.send-moved.ensures.sent c.if-moved.true) in
+    rw (← c.self.view_is) (λ _ x full. sent x full)
 
 pub returns-then-moved-clause-due : goal.returns-then-moved-clause-due
 returns-then-moved-clause-due g c = due_exchange c.self.invariant c.self.view_is c.requires.due
@@ -62,21 +56,18 @@ returns-else-moved-clause-filled g c = send_filled_seen c.self.invariant c.self.
 
 pub returns-then-moved-clause-pairings : goal.returns-then-moved-clause-pairings
 returns-then-moved-clause-pairings g c =
-    let p : length c.send-moved.new.ports ≡ c.self.inside.outboxes.len = search rules in
-    let kept = rw c.deref_mut-2.ensures.value at c.send-moved.ensures.pairings in
-    rw (written c.self.inside.outboxes.len c.send-moved.new.ports c.self.inside.outboxes.items p, ← c.self.view_is) (record { inboxes = record { same_peers = refl; same_pairings = refl }; outboxes = kept })
+    let kept = c.send-moved.ensures.pairings in
+    rw (← c.self.view_is) (record { inboxes = record { same_peers = refl; same_pairings = refl }; outboxes = kept })
 
 pub returns-else-moved-clause-pairings : goal.returns-else-moved-clause-pairings
 returns-else-moved-clause-pairings g c =
-    let p : length c.send-moved.new.ports ≡ c.self.inside.outboxes.len = search rules in
-    let kept = rw c.deref_mut-2.ensures.value at c.send-moved.ensures.pairings in
-    rw (written c.self.inside.outboxes.len c.send-moved.new.ports c.self.inside.outboxes.items p, ← c.self.view_is) (record { inboxes = record { same_peers = refl; same_pairings = refl }; outboxes = kept })
+    let kept = c.send-moved.ensures.pairings in
+    rw (← c.self.view_is) (record { inboxes = record { same_peers = refl; same_pairings = refl }; outboxes = kept })
 
 pub returns-else-moved-clause-missed : goal.returns-else-moved-clause-missed
 returns-else-moved-clause-missed g c =
-    let p : length c.send-moved.new.ports ≡ c.self.inside.outboxes.len = search rules in
-    let missed = rw c.deref_mut-2.ensures.value at (c.send-moved.ensures.miss c.if-moved.false) in
-    rw (written c.self.inside.outboxes.len c.send-moved.new.ports c.self.inside.outboxes.items p, ← c.self.view_is) (λ _. missed)
+    let missed = c.send-moved.ensures.missed c.if-moved.false in
+    rw (← c.self.view_is) (λ _. missed)
 
 pub returns-else-moved-clause-same_slots : goal.returns-else-moved-clause-same_slots
 returns-else-moved-clause-same_slots g c =

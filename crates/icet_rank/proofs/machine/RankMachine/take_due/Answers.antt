@@ -1,22 +1,17 @@
-use Rattle.std.proofs.Common.{refl, ◌≡◌, ◌<◌, rules, arith, length}
-use Rattle.icet_rank.proofs.Now.{named, next_place, next_counter, due_exchange, take_room, take_peer, take_range, take_done, take_waits}
-use Rattle.icet_rank.proofs.Keeps.{written}
+use Rattle.std.proofs.Common.{refl, ◌<◌, arith, length}
+use Rattle.icet_rank.proofs.MachineMoves.{named, next_place, next_counter, due_exchange, take_room, take_range, take_done, take_waits}
 use Rattle.icet_rank.proofs.machine.RankMachine.take_due.Goals as goal
 
-pub place_of-at-requires : goal.place_of-at-requires
-place_of-at-requires g c = rw c.deref.ensures.value (take_peer c.self.invariant c.self.view_is c.requires.due c.requires.kind)
+pub take-requires-clause-ascend : goal.take-requires-clause-ascend
+take-requires-clause-ascend g c κs within = c.self.invariant.runs.in_ascend
 
-pub take_at-requires-clause-there : goal.take_at-requires-clause-there
-take_at-requires-clause-there g c κs within = rw (c.deref_mut.ensures.value, ← c.deref.ensures.value) c.place_of-at.ensures.there
-
-pub take_at-requires-clause-room : goal.take_at-requires-clause-room
-take_at-requires-clause-room g c κs within = rw c.deref_mut.ensures.value (take_room c.self.invariant c.self.view_is c.requires.due c.requires.kind)
+pub take-requires-clause-room : goal.take-requires-clause-room
+take-requires-clause-room g c κs within = take_room c.self.invariant c.self.view_is c.requires.due c.requires.kind
 
 pub invariant_of-self : goal.invariant_of-self
 invariant_of-self g c =
-    let p : length c.take_at.new.ports ≡ c.self.inside.inboxes.len = search rules in
-    let missed = rw (c.in-None.is, c.deref_mut.ensures.value) at c.take_at.ensures.none in
-    rw (written c.self.inside.inboxes.len c.take_at.new.ports c.self.inside.inboxes.items p) (take_waits c.self.invariant c.take_at.new.ports missed)
+    let missed = rw c.in-None.is at c.take.ensures.missed in
+    take_waits c.self.invariant c.take.new.self missed
 
 pub fitting-requires : goal.fitting-requires
 fitting-requires g c = take_range c.self.invariant c.self.view_is c.requires.due c.requires.kind
@@ -34,10 +29,8 @@ overflow_add-self-in-Some g c = let l = next_counter c.self.invariant c.self.vie
 
 pub invariant_of-self-in-Some : goal.invariant_of-self-in-Some
 invariant_of-self-in-Some g c =
-    let p : length c.take_at.new.ports ≡ c.self.inside.inboxes.len = search rules in
-    let some = rw (c.in-Some.is, c.deref_mut.ensures.value) at c.take_at.ensures.some in
-    rw (written c.self.inside.inboxes.len c.take_at.new.ports c.self.inside.inboxes.items p)
-    (take_done c.self.invariant c.self.view_is c.requires.due c.requires.kind c.take_at.new.ports c.in-Some.message c.fitting.result (c.fitting.ensures c.self.inside.mode c.self.inside.images) some)
+    let some = rw c.in-Some.is at c.take.ensures.taken in
+    take_done c.self.invariant c.self.view_is c.requires.due c.requires.kind c.take.new.self c.in-Some.message c.fitting.result (c.fitting.ensures c.self.inside.mode c.self.inside.images) some
 
 pub returns-in-None-clause-due : goal.returns-in-None-clause-due
 returns-in-None-clause-due g c = due_exchange c.self.invariant c.self.view_is c.requires.due
@@ -47,27 +40,23 @@ returns-in-Some-clause-due g c = due_exchange c.self.invariant c.self.view_is c.
 
 pub returns-in-None-clause-pairings : goal.returns-in-None-clause-pairings
 returns-in-None-clause-pairings g c =
-    let p : length c.take_at.new.ports ≡ c.self.inside.inboxes.len = search rules in
-    let kept = rw c.deref_mut.ensures.value at c.take_at.ensures.pairings in
-    rw (written c.self.inside.inboxes.len c.take_at.new.ports c.self.inside.inboxes.items p, ← c.self.view_is) (record { inboxes = kept; outboxes = record { same_peers = refl; same_pairings = refl } })
+    let kept = c.take.ensures.pairings in
+    rw (← c.self.view_is) (record { inboxes = kept; outboxes = record { same_peers = refl; same_pairings = refl } })
 
 pub returns-in-Some-clause-pairings : goal.returns-in-Some-clause-pairings
 returns-in-Some-clause-pairings g c =
-    let p : length c.take_at.new.ports ≡ c.self.inside.inboxes.len = search rules in
-    let kept = rw c.deref_mut.ensures.value at c.take_at.ensures.pairings in
-    rw (written c.self.inside.inboxes.len c.take_at.new.ports c.self.inside.inboxes.items p, ← c.self.view_is) (record { inboxes = kept; outboxes = record { same_peers = refl; same_pairings = refl } })
+    let kept = c.take.ensures.pairings in
+    rw (← c.self.view_is) (record { inboxes = kept; outboxes = record { same_peers = refl; same_pairings = refl } })
 
 pub returns-in-None-clause-missed : goal.returns-in-None-clause-missed
 returns-in-None-clause-missed g c =
-    let p : length c.take_at.new.ports ≡ c.self.inside.inboxes.len = search rules in
-    let missed = rw (c.in-None.is, c.deref_mut.ensures.value) at c.take_at.ensures.none in
-    rw (written c.self.inside.inboxes.len c.take_at.new.ports c.self.inside.inboxes.items p, ← c.self.view_is) (λ _. missed)
+    let missed = rw c.in-None.is at c.take.ensures.missed in
+    rw (← c.self.view_is) (λ _. missed)
 
 pub returns-in-Some-clause-moved : goal.returns-in-Some-clause-moved
 returns-in-Some-clause-moved g c =
-    let p : length c.take_at.new.ports ≡ c.self.inside.inboxes.len = search rules in
-    let some = rw (c.in-Some.is, c.deref_mut.ensures.value) at c.take_at.ensures.some in
-    rw (written c.self.inside.inboxes.len c.take_at.new.ports c.self.inside.inboxes.items p, ← c.self.view_is) (λ _. record { message = c.in-Some.message; carried = some })
+    let some = rw c.in-Some.is at c.take.ensures.taken in
+    rw (← c.self.view_is) (λ _. record { message = c.in-Some.message; carried = some })
 
 pub returns-in-None-clause-job : goal.returns-in-None-clause-job
 returns-in-None-clause-job g c = rw (← c.self.view_is) (record { number = refl; mode = refl; ops = refl; images = refl })

@@ -50,30 +50,19 @@ invariant_of-self-in-None c =
 pub returns-in-Some-clause-taken : goal.returns-in-Some-clause-taken
 returns-in-Some-clause-taken c =
     let n = next c.self.inside.taken c.self.inside.carried.items _ _ (sym c.self.invariant.ready_are ∙ c.in-Some.ensures.items) in
-    n.front ∙ ap (λ v. v.messages ++ c.in-Some.message ∷ []) c.self.view_is
+    record {
+      messages = n.front ∙ ap (λ v. v.messages ++ c.in-Some.message ∷ []) c.self.view_is;
+      room = rw (← c.self.view_is) (omega (arith, n.within, c.self.invariant.all));
+      known = rw (← c.self.view_is, c.in-Some.ensures.items) (search rules);
+      misses = ap (λ v. v.misses) c.self.view_is;
+      pairing = ap (λ v. v.pairing) c.self.view_is;
+    }
 
-pub returns-in-Some-clause-room : goal.returns-in-Some-clause-room
-returns-in-Some-clause-room c =
-    let n = next c.self.inside.taken c.self.inside.carried.items _ _ (sym c.self.invariant.ready_are ∙ c.in-Some.ensures.items) in
-    rw (← c.self.view_is) (omega (arith, n.within, c.self.invariant.all))
-
-pub returns-in-Some-clause-known : goal.returns-in-Some-clause-known
-returns-in-Some-clause-known c = rw (← c.self.view_is, c.in-Some.ensures.items) (search rules)
-
-pub returns-in-Some-clause-pairing : goal.returns-in-Some-clause-pairing
-returns-in-Some-clause-pairing c = ap (λ v. v.pairing) c.self.view_is
-
-pub returns-in-None-clause-cause : goal.returns-in-None-clause-cause
-returns-in-None-clause-cause c = rw (← c.self.view_is) (search rules)
-
-pub returns-in-None-clause-miss : goal.returns-in-None-clause-miss
-returns-in-None-clause-miss c = rw (← c.self.view_is, c.saturating_add-self-inside.ensures) (search rules)
-
-pub returns-in-None-clause-same : goal.returns-in-None-clause-same
-returns-in-None-clause-same c = ap (λ v. v.messages) c.self.view_is
-
-pub returns-in-None-clause-same_room : goal.returns-in-None-clause-same_room
-returns-in-None-clause-same_room c = ap (λ v. v.room) c.self.view_is
-
-pub returns-in-None-clause-pairing : goal.returns-in-None-clause-pairing
-returns-in-None-clause-pairing c = ap (λ v. v.pairing) c.self.view_is
+pub returns-in-None-clause-missed : goal.returns-in-None-clause-missed
+returns-in-None-clause-missed c = record {
+  known = rw (← c.self.view_is) (search rules);
+  misses = rw (← c.self.view_is, c.saturating_add-self-inside.ensures) (search rules);
+  messages = ap (λ v. v.messages) c.self.view_is;
+  room = ap (λ v. v.room) c.self.view_is;
+  pairing = ap (λ v. v.pairing) c.self.view_is;
+}

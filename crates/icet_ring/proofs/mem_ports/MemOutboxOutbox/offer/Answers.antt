@@ -24,31 +24,22 @@ invariant_of-self c =
     }
 
 pub returns-then-len-self-clause-sent : goal.returns-then-len-self-clause-sent
-returns-then-len-self-clause-sent c = c.push_reserved.ensures.items ∙ ap (λ v. v.messages ++ c.args.message ∷ []) c.self.view_is
-
-pub returns-then-len-self-clause-room : goal.returns-then-len-self-clause-room
-returns-then-len-self-clause-room c = sym (ap (λ v. v.room) c.self.view_is) ∙ omega (arith, room c, longer c)
-
-pub returns-then-len-self-clause-free : goal.returns-then-len-self-clause-free
-returns-then-len-self-clause-free c = rw (← c.self.view_is) (omega (arith, longer c))
-
-pub returns-then-len-self-clause-pairing : goal.returns-then-len-self-clause-pairing
-returns-then-len-self-clause-pairing c = rw (c.push_reserved.ensures.items, take-append-le c.self.inside.carried c.self.inside.sent.items (c.args.message ∷ []) c.self.invariant.behind) (ap (λ v. v.pairing) c.self.view_is)
+returns-then-len-self-clause-sent c = record {
+  messages = c.push_reserved.ensures.items ∙ ap (λ v. v.messages ++ c.args.message ∷ []) c.self.view_is;
+  room = sym (ap (λ v. v.room) c.self.view_is) ∙ omega (arith, room c, longer c);
+  known = rw (← c.self.view_is) (omega (arith, longer c));
+  misses = ap (λ v. v.misses) c.self.view_is;
+  pairing = rw (c.push_reserved.ensures.items, take-append-le c.self.inside.carried c.self.inside.sent.items (c.args.message ∷ []) c.self.invariant.behind) (ap (λ v. v.pairing) c.self.view_is);
+}
 
 pub invariant_of-self-else-len-self : goal.invariant_of-self-else-len-self
 invariant_of-self-else-len-self c = c.self.invariant
 
-pub returns-else-len-self-clause-cause : goal.returns-else-len-self-clause-cause
-returns-else-len-self-clause-cause c = let n : c.len.result ≡ length c.self.inside.sent.items = search rules in rw (← c.self.view_is) (omega (arith, n, c.if-len-self.false))
-
-pub returns-else-len-self-clause-miss : goal.returns-else-len-self-clause-miss
-returns-else-len-self-clause-miss c = rw (← c.self.view_is, c.saturating_add-self-inside.ensures) (search rules)
-
-pub returns-else-len-self-clause-same : goal.returns-else-len-self-clause-same
-returns-else-len-self-clause-same c = ap (λ v. v.messages) c.self.view_is
-
-pub returns-else-len-self-clause-same_room : goal.returns-else-len-self-clause-same_room
-returns-else-len-self-clause-same_room c = ap (λ v. v.room) c.self.view_is
-
-pub returns-else-len-self-clause-pairing : goal.returns-else-len-self-clause-pairing
-returns-else-len-self-clause-pairing c = ap (λ v. v.pairing) c.self.view_is
+pub returns-else-len-self-clause-missed : goal.returns-else-len-self-clause-missed
+returns-else-len-self-clause-missed c = record {
+  known = let n : c.len.result ≡ length c.self.inside.sent.items = search rules in rw (← c.self.view_is) (omega (arith, n, c.if-len-self.false));
+  misses = rw (← c.self.view_is, c.saturating_add-self-inside.ensures) (search rules);
+  messages = ap (λ v. v.messages) c.self.view_is;
+  room = ap (λ v. v.room) c.self.view_is;
+  pairing = ap (λ v. v.pairing) c.self.view_is;
+}

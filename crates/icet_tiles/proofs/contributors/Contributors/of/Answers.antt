@@ -3,7 +3,7 @@ use Rattle.std.specs.Prelude.{slice_get}
 use Rattle.std.proofs.lemmas.List.{map-append, map_more}
 use Rattle.std.proofs.lemmas.Option.{get_or_from_slice_get}
 use Rattle.icet_tiles.specs.Layouts.{tile_view}
-use Rattle.icet_model.specs.Boxes.{contributors}
+use Rattle.icet_scene_model.specs.Boxes.{contributors}
 use Rattle.icet_tiles.proofs.contributors.Contributors.of.Goals as goal
 
 -- one more list, for the next tile

@@ -1,5 +1,5 @@
 use Rattle.std.proofs.Common.{◌≡◌, map, take}
-use Rattle.icet_model.specs.Boxes.{contributors}
+use Rattle.icet_scene_model.specs.Boxes.{contributors}
 use Rattle.icet_tiles.proofs.contributors.Contributors.of.Given as goal
 
 abbrev pub invariant-loop-tile : goal.invariant-loop-tile

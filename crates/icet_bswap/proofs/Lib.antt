@@ -1,0 +1,11 @@
+pub mod Exchanged
+pub mod FinalPieces
+pub mod Folding
+pub mod HalvingIsRadix
+pub mod LegRuns
+pub mod ProgramSteps
+pub mod SwapInOrder
+pub mod SwapMakesLeg
+pub mod SwapSends
+pub mod SwapStrategy
+pub mod WholeBracket

@@ -1,0 +1,3 @@
+pub mod Bswap
+pub mod Split
+pub mod Laws

@@ -1,0 +1,14 @@
+pub mod Collect
+pub mod Group
+pub mod InRow
+pub mod Leg
+pub mod Merge
+pub mod Order
+pub mod Pairing
+pub mod Powers
+pub mod Radix
+pub mod Sends
+pub mod Task
+pub mod Team
+pub mod TileStrategy
+pub mod Pushed

@@ -1,0 +1,49 @@
+//! Worked examples, which the prover evaluates: each message is a line of from, to, round, tile, lo and hi.
+ghost use Rattle.std.specs.Prelude.{◌≡◌, [], ◌∷◌, ◌==◌, ◌&&◌, nat_lt, filter, get_or, length};
+ghost use Rattle.icet_model.specs.declared.bracket.Bracket.TheVariants.{Leaf, Pair};
+ghost use Rattle.icet_tree.specs.Tree.{tree_strategy};
+ghost use Rattle.icet_bswap.specs.Bswap.{bswap_strategy};
+ghost use Rattle.icet_radixk.specs.Factors.{factors};
+ghost use Rattle.icet_radixk.specs.Radixk.{radix_strategy};
+ghost use Rattle.icet_multi.specs.Samples.{collected_from, five_bracket, five_swap, four_bracket, four_by_four, from_rank, leaves, lines, m, six_bracket, three_swap, tile};
+
+/// The tree over three ranks, and over two ranks and two tiles: empty images are sent too, and the second tile's
+/// rounds begin where the first one's end.
+pub fn tree()
+    ensures three { lines tree_strategy 3 (tile 2 2 ∷ []) ≡ m 0 2 2 0 0 2 ∷ m 1 0 0 0 0 2 ∷ m 2 0 1 0 0 2 ∷ [] }
+    ensures two_tiles { lines tree_strategy 2 (tile 1 0 ∷ tile 1 1 ∷ []) ≡ m 0 1 3 1 0 1 ∷ m 1 0 0 0 0 1 ∷ m 1 0 2 1 0 1 ∷ [] }
+    ensures bracket { tree_strategy.bracket (leaves 4) ≡ Pair (Pair (Leaf 0) (Leaf 1)) (Pair (Leaf 2) (Leaf 3)) }
+{}
+
+/// Binary-swap on five ranks, and on three of which the display is no swapper.
+pub fn binary_swap()
+    ensures first { from_rank 0 five_swap ≡ m 0 2 1 0 3 7 ∷ m 0 3 2 0 1 3 ∷ [] }
+    ensures folded { from_rank 1 five_swap ≡ m 1 0 0 0 0 7 ∷ [] }
+    ensures third { from_rank 2 five_swap ≡ m 2 0 1 0 0 3 ∷ m 2 0 3 0 3 5 ∷ m 2 4 2 0 5 7 ∷ [] }
+    ensures fourth { from_rank 3 five_swap ≡ m 3 0 2 0 0 1 ∷ m 3 0 3 0 1 3 ∷ m 3 4 1 0 3 7 ∷ [] }
+    ensures last { from_rank 4 five_swap ≡ m 4 0 3 0 5 7 ∷ m 4 2 2 0 3 5 ∷ m 4 3 1 0 0 3 ∷ [] }
+    ensures bracket { bswap_strategy.bracket (leaves 5) ≡ five_bracket }
+    ensures aside { from_rank 0 three_swap ≡ m 0 1 2 0 0 2 ∷ m 0 2 1 0 2 4 ∷ [] }
+    ensures aside_folded { from_rank 1 three_swap ≡ m 1 0 0 0 0 4 ∷ [] }
+    ensures aside_last { from_rank 2 three_swap ≡ m 2 0 1 0 0 2 ∷ m 2 1 2 0 2 4 ∷ [] }
+{}
+
+/// Binary-swap on eight ranks with fewer positions than ranks: 31 messages, and some final pieces are empty.
+pub fn few_positions()
+    ensures count { length (lines bswap_strategy 8 (tile 3 0 ∷ [])) ≡ 31 }
+    ensures collected { collected_from (λ r. nat_lt r 4) ≡ m 1 0 4 0 1 1 ∷ m 2 0 4 0 0 0 ∷ m 3 0 4 0 2 2 ∷ [] }
+    ensures collected_last { collected_from (λ r. nat_lt 5 r) ≡ m 6 0 4 0 0 1 ∷ m 7 0 4 0 2 3 ∷ [] }
+{}
+
+/// The factors of radix-k, and its messages on four ranks that are one group.
+pub fn radix_k()
+    ensures twelve { factors 8 12 ≡ 6 ∷ 2 ∷ [] }
+    ensures eleven { factors 8 11 ≡ 11 ∷ [] }
+    ensures sixty_four { factors 8 64 ≡ 8 ∷ 8 ∷ [] }
+    ensures twenty_two { factors 8 22 ≡ 2 ∷ 11 ∷ [] }
+    ensures one { factors 8 1 ≡ [] }
+    ensures first { from_rank 0 four_by_four ≡ m 0 1 0 0 1 2 ∷ m 0 2 0 0 2 3 ∷ m 0 3 0 0 3 4 ∷ [] }
+    ensures second { from_rank 1 four_by_four ≡ m 1 0 0 0 0 1 ∷ m 1 0 1 0 1 2 ∷ m 1 2 0 0 2 3 ∷ m 1 3 0 0 3 4 ∷ [] }
+    ensures bracket { (radix_strategy 4).bracket (leaves 4) ≡ four_bracket }
+    ensures two_and_three { (radix_strategy 3).bracket (leaves 6) ≡ six_bracket }
+{}

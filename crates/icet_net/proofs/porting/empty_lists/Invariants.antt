@@ -1,5 +1,0 @@
-use Rattle.std.proofs.Common.{◌≡◌, [], replicate}
-use Rattle.icet_net.proofs.porting.empty_lists.Given as goal
-
-abbrev pub invariant-making : goal.invariant-making
-invariant-making g l = l.lists.items ≡ replicate l.counter []

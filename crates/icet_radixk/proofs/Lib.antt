@@ -1,0 +1,9 @@
+pub mod FactorLists
+pub mod Folded
+pub mod FinalPieces
+pub mod FoldSteps
+pub mod RadixLegInOrder
+pub mod RadixLegs
+pub mod RadixMakesLeg
+pub mod RadixStrategy
+pub mod RoundSteps

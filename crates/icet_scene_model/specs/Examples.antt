@@ -1,0 +1,156 @@
+-- Small scenes for the examples of the definitions.
+use Rattle.std.specs.Prelude.{ℕ, ℤ, pos, negsuc, List, [], ◌∷◌, ◌++◌, Option, Some, None, codes}
+use Rattle.icet_model.specs.declared.names.Mode.TheVariants.{Depth, Blend}
+use Rattle.icet_model.specs.Pixel.{FragmentView, Pixel}
+use Rattle.icet_model.specs.Tiles.{Area, TileView}
+use Rattle.icet_model.specs.declared.names.Rect.{Rect}
+use Rattle.icet_model.specs.Examples.{grey, red}
+use Rattle.icet_scene_model.specs.Raster.{Drawing, Point}
+use Rattle.icet_scene_model.specs.Triangles.{Corner, Triangle}
+use Rattle.icet_scene_model.specs.Words.{Job, Command, command_of}
+use Rattle.icet_scene_model.specs.Lines.{words_of}
+use Rattle.icet_scene_model.specs.Scene.{SceneView, Placed}
+
+-- the background of a scene
+abbrev pub clear : FragmentView
+clear = record { r = 0; g = 0; b = 0; a = 0; z = 0 }
+
+abbrev pub grey_point : ℕ → ℕ → ℕ → ℕ → ℕ → Placed
+grey_point rank x y level z = record { rank = rank; shape = Point x y (grey level z) }
+
+abbrev pub tile : ℕ → ℕ → ℕ → ℕ → ℕ → TileView
+tile x y w h display = record { area = record { x = x; y = y; w = w; h = h }; display = display }
+
+-- one rank, and one point on a tile of one pixel
+abbrev pub one_point_text : List ℕ
+one_point_text = codes "icet-scene 1\nmode depth\nranks 1\ntile 0 0 1 1 0\npoint 0 0 0 7 10 20 30 255\nend\n"
+
+abbrev pub one_point : SceneView
+one_point = record {
+  mode = Depth;
+  ranks = 1;
+  background = clear;
+  order = 0 ∷ [];
+  tiles = tile 0 0 1 1 0 ∷ [];
+  shapes = record { rank = 0; shape = Point 0 0 (record { r = 10; g = 20; b = 30; a = 255; z = 7 }) } ∷ [];
+}
+
+abbrev pub tie_text : List ℕ
+tie_text = codes "icet-scene 1\nmode depth\nranks 2\ntile 0 0 1 1 0\npoint 1 0 0 7 2 2 2 255\npoint 0 0 0 7 1 1 1 255\nend\n"
+
+-- two ranks draw at one pixel and at equal depth, and rank 1 stands first in the scene
+abbrev pub tie : SceneView
+tie = record {
+  mode = Depth;
+  ranks = 2;
+  background = clear;
+  order = 0 ∷ 1 ∷ [];
+  tiles = tile 0 0 1 1 0 ∷ [];
+  shapes = grey_point 1 0 0 2 7 ∷ grey_point 0 0 0 1 7 ∷ [];
+}
+
+-- a text by depth, and one with a rank and a tile of one pixel, from what follows
+abbrev pub depth_text : List ℕ → List ℕ
+depth_text rest = codes "icet-scene 1\nmode depth\n" ++ rest
+
+abbrev pub one_tile_text : List ℕ → List ℕ
+one_tile_text rest = depth_text (codes "ranks 1\ntile 0 0 1 1 0\n" ++ rest)
+
+abbrev pub command : Job → ℕ → List ℕ → Command
+command job cap schedule = record { job = job; cap = cap; schedule = schedule }
+
+abbrev pub header_text : List ℕ
+header_text = codes "P7\nWIDTH 1920\nHEIGHT 1080\nDEPTH 4\nMAXVAL 255\nTUPLTYPE RGB_ALPHA\nENDHDR\n"
+
+-- a background, and the samples of it and of an opaque grey behind it
+abbrev pub pale : FragmentView
+pale = record { r = 1; g = 2; b = 3; a = 4; z = 0 }
+
+abbrev pub pale_and_grey : List ℕ
+pale_and_grey = 1 ∷ 2 ∷ 3 ∷ 4 ∷ 9 ∷ 9 ∷ 9 ∷ 255 ∷ []
+
+abbrev pub area : ℕ → ℕ → ℕ → ℕ → Area
+area x y w h = record { x = x; y = y; w = w; h = h }
+
+-- two points on a diagonal of a square of four pixels
+abbrev pub diagonal : List Drawing
+diagonal = Point 5 2 (grey 1 7) ∷ Point 4 3 (grey 2 7) ∷ []
+
+-- rectangles, and one whose corner is on the diagonal
+abbrev pub beside : ℤ → ℤ → ℕ → ℕ → Rect
+beside x y w h = record { x = x; y = y; w = w; h = h }
+
+abbrev pub rect : ℤ → ℕ → ℕ → Rect
+rect corner w h = beside corner corner w h
+
+-- three ranks with a box, and one that draws nothing
+abbrev pub four_boxes : List (Option Rect)
+four_boxes = Some (beside (pos 3) (pos 0) 1 1) ∷ None ∷ Some (beside (pos 0) (pos 0) 4 1) ∷ Some (beside (pos 4) (pos 0) 1 1) ∷ []
+
+-- the command of a line of words
+abbrev pub of_words : List ℕ → Option Command
+of_words line = command_of (words_of line)
+
+abbrev pub replay_words : List ℕ
+replay_words = codes "replay --strategy direct --cap 1 --schedule 0,63,0"
+
+abbrev pub diagonal_pixels : List Pixel
+diagonal_pixels = None ∷ Some (grey 1 7) ∷ Some (grey 2 7) ∷ None ∷ []
+
+-- three half transparent or opaque fragments of three ranks at one pixel, and a rank that draws nothing
+abbrev pub reds : SceneView
+reds = record {
+  mode = Blend;
+  ranks = 4;
+  background = clear;
+  order = 0 ∷ 1 ∷ 2 ∷ 3 ∷ [];
+  tiles = tile 0 0 1 1 0 ∷ [];
+  shapes = record { rank = 1; shape = Point 0 0 (red 0 128) } ∷ record { rank = 2; shape = Point 0 0 (red 1 128) } ∷ record { rank = 3; shape = Point 0 0 (red 100 255) } ∷ [];
+}
+
+-- an opaque red of this level at this depth
+abbrev pub opaque_red : ℕ → ℕ → FragmentView
+opaque_red level z = record (red level 255) { z = z }
+
+-- a corner of that paint, at a spot in sixteenths of a pixel
+abbrev pub corner : ℕ → ℕ → ℕ → ℕ → Corner
+corner x y level z = record { spot = record { x = pos x; y = pos y }; paint = opaque_red level z }
+
+-- two by two pixels
+abbrev pub square : Area
+square = record { x = 0; y = 0; w = 2; h = 2 }
+
+-- the upper left and the lower right half of a square of two by two pixels, whose common edge goes
+-- through the centres of two of them
+abbrev pub upper_half : Triangle
+upper_half = record { a = corner 0 0 1 5; b = corner 32 0 1 5; c = corner 0 32 1 5 }
+
+abbrev pub lower_half : Triangle
+lower_half = record { a = corner 32 0 2 5; b = corner 32 32 2 5; c = corner 0 32 2 5 }
+
+-- a triangle of three paints, and the same with its last two corners exchanged
+abbrev pub shaded_half : Triangle
+shaded_half = record { a = corner 0 0 100 0; b = corner 32 0 200 8; c = corner 0 32 4 16 }
+
+abbrev pub turned_half : Triangle
+turned_half = record { a = corner 0 0 100 0; b = corner 0 32 4 16; c = corner 32 0 200 8 }
+
+-- a triangle that begins one sixteenth of a pixel left of the display and seventeen above it
+abbrev pub over_the_edge : Triangle
+over_the_edge = record { a = record { spot = record { x = negsuc 0; y = negsuc 16 }; paint = opaque_red 1 5 }; b = corner 32 0 1 5; c = corner 0 31 1 5 }
+
+abbrev pub upper_pixels : List Pixel
+upper_pixels = Some (opaque_red 1 5) ∷ None ∷ None ∷ None ∷ []
+
+abbrev pub lower_pixels : List Pixel
+lower_pixels = None ∷ Some (opaque_red 2 5) ∷ Some (opaque_red 2 5) ∷ Some (opaque_red 2 5) ∷ []
+
+-- a triangle without area
+abbrev pub flat_triangle : Triangle
+flat_triangle = record { a = corner 0 0 1 5; b = corner 16 16 1 5; c = corner 32 32 1 5 }
+
+abbrev pub two_greys : List FragmentView
+two_greys = grey 1 7 ∷ grey 2 7 ∷ []
+
+abbrev pub schedule_words : List ℕ
+schedule_words = codes "replay --strategy direct --schedule 7"

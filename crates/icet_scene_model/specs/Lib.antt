@@ -1,0 +1,11 @@
+pub mod Boxes
+pub mod Examples
+pub mod FaultLines
+pub mod Jobs
+pub mod Lines
+pub mod Numeral
+pub mod Picture
+pub mod Raster
+pub mod Scene
+pub mod Triangles
+pub mod Words

@@ -1,0 +1,8 @@
+use Rattle.icet_tree.proofs.TreePrograms.{program_is, program_short}
+use Rattle.icet_tree.proofs.exchange.ops_of.Goals as goal
+
+pub returns-clause-ops : goal.returns-clause-ops
+returns-clause-ops c = program_is c.args.task.now c.requires.task c.args.levels c.args.finals.now c.requires.finals c.args.p c.requires.place _ _ _ c.new-ops.ensures.items c.in_ok-push_rounds.ensures c.in_ok-push_collection.ensures
+
+pub returns-clause-short : goal.returns-clause-short
+returns-clause-short c = program_short c.args.task.now c.requires.task c.args.levels c.requires.levels c.args.p _ (program_is c.args.task.now c.requires.task c.args.levels c.args.finals.now c.requires.finals c.args.p c.requires.place _ _ _ c.new-ops.ensures.items c.in_ok-push_rounds.ensures c.in_ok-push_collection.ensures)
