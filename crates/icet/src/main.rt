@@ -8,7 +8,8 @@ ghost use Rattle.icet_cli.specs.Outcome.{outside, texts};
 
 use icet_base::{PlainGate, Sink, Source, StdSink, StdSource};
 use icet_cli::{RunFault, Status, note_fault, run};
-use icet_ring::{MemWires, Wires};
+use icet_ring::Wires;
+use icet_ring_wires::RingWires;
 use std::alloc::{AllocError, Global};
 use std::process::ExitCode;
 use std::thread::Threads;
@@ -20,7 +21,7 @@ fn main(rt: HostRuntime) -> ExitCode {
     let mut source = StdSource::new(rt.stdin());
     let mut sink = StdSink::new(rt.stdout());
     let mut notes = StdSink::new(rt.stderr());
-    let mut wires = MemWires::new(rt.alloc());
+    let mut wires = RingWires::new(rt.alloc());
     let status = match arguments(rt.alloc(), env::args(&rt)) {
         Ok(arguments) => run_on(
             &rt,

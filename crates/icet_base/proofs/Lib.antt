@@ -1,2 +1,3 @@
 pub mod GrowingBytes
+pub mod PutPieces
 pub mod ReadBytes

@@ -3,6 +3,7 @@ ghost use Rattle.icet_legs.specs.Leg.{IsExchangePlan, IsPlanFor};
 ghost use Rattle.icet_legs.specs.Task.{StandsIn};
 ghost use Rattle.icet_legs.specs.Team.{team_of};
 ghost use Rattle.icet_bswap.specs.Bswap.{bswap_strategy};
+ghost use Rattle.icet_model.specs.declared.limits.TheConstants.{MAX_RANKS};
 
 use crate::programs::programs;
 use crate::split::Split;
@@ -31,7 +32,7 @@ pub fn exchange_plan(
     first_round: u32,
 ) -> Result<Leg, NoMemory>
     requires distinct { AllPairs (λ a b. a ≢ b) participants.now }
-    requires low { length participants.now ≤ 256 }
+    requires low { length participants.now ≤ MAX_RANKS }
     requires leaves { length leaves.now ≡ length participants.now }
     requires display { StandsIn participants.now display }
     requires small { pixels < 2 ^ 31 }

@@ -1,6 +1,7 @@
 ghost use Rattle.std.specs.Prelude.{◌≡◌, ◌<◌, ◌≤◌};
 ghost use Rattle.icet_legs.specs.Powers.{floor_log2};
 ghost use Rattle.icet_bswap.specs.Bswap.{fold_count, seat, swapper};
+ghost use Rattle.icet_model.specs.declared.limits.TheConstants.{MAX_RANKS};
 
 use icet_legs::powers::{floor_log2, power};
 
@@ -28,7 +29,7 @@ impl Split {
 
     // which swapper sits at a position, if one does
     pub(crate) fn swapper_at(self, p: u32) -> Option<u32>
-        requires { self.e ≤ 256 }
+        requires { self.e ≤ MAX_RANKS }
         ensures { result ≡ swapper self.e p }
     {
         if p >= 2 * self.e {
@@ -39,8 +40,8 @@ impl Split {
 
     // at which position a swapper sits
     pub(crate) fn seat_of(self, s: u32) -> u32
-        requires swapper { s ≤ 256 }
-        requires split { self.e ≤ 256 }
+        requires swapper { s ≤ MAX_RANKS }
+        requires split { self.e ≤ MAX_RANKS }
         ensures { result ≡ seat self.e s }
     {
         if s < self.e { 2 * s } else { s + self.e }

@@ -5,8 +5,10 @@ use Rattle.std.specs.Io.KnownBytes.{Consumes, IsAtEnd}
 use Rattle.std.proofs.lemmas.Bool.Decides.{nat_tests}
 use Rattle.std.proofs.lemmas.List.{append-nil}
 use Rattle.icet_model.specs.declared.limits.TheConstants.{MAX_SCENE_BYTES}
-use Rattle.icet_scene_model.specs.Lines.{lines_of}
-use Rattle.icet_scene_model.specs.Scene.{SceneView, SceneText, TooLong, text_is, text_behind}
+use Rattle.icet_text.specs.Lines.{lines_of}
+use Rattle.icet_scene_model.specs.Scene.{SceneView}
+use Rattle.icet_scene_model.specs.Texts.{Text, SceneText, Refused, text_is, text_behind}
+use Rattle.icet_scene_model.specs.declared.fault.SceneFault.TheVariants.{TooLong}
 use Rattle.icet_cli.specs.Outcome.{Outside, EndsAs, IsComplete}
 use Rattle.icet_cli.specs.declared.status.Status.{Status}
 use Rattle.icet_cli.specs.declared.status.Status.TheVariants.{Ok, SceneRefused, WordsRefused, ReadFault, WriteFault, NoMemory}
@@ -15,7 +17,7 @@ use Rattle.icet_cli.specs.declared.status.Status.TheVariants.{Ok, SceneRefused, 
 pub short : (bytes : List ℕ) (scene : SceneView) → text_is bytes ≡ SceneText scene → length bytes ≤ MAX_SCENE_BYTES
 short bytes scene e = go (nat_lt MAX_SCENE_BYTES (length bytes)) refl e
   where
-    go : (b : Bool) → nat_lt MAX_SCENE_BYTES (length bytes) ≡ b → cond b TooLong (text_behind [] 1 (lines_of bytes)) ≡ SceneText scene → length bytes ≤ MAX_SCENE_BYTES
+    go : (b : Bool) → nat_lt MAX_SCENE_BYTES (length bytes) ≡ b → cond b (Refused TooLong) (text_behind [] 1 (lines_of bytes)) ≡ SceneText scene → length bytes ≤ MAX_SCENE_BYTES
     go true t f = absurd cc
     go false t f = grind (arith, nat_tests, t)
 
@@ -34,7 +36,8 @@ complete words old new Ok ends command bytes scene read left valid sure_source s
 complete words old new NoMemory ends command bytes scene read left valid sure_source sure_sink = inr refl
 complete words old new SceneRefused ends command bytes scene read left valid sure_source sure_sink =
     let refuses = ends.1 in
-    absurd (refuses.faulty scene (ap text_is (all_read old.source.left new.source.left bytes refuses.bytes left refuses.all.read.consumed refuses.all.whole (short bytes scene valid)) ∙ valid))
+    let same = ap text_is (all_read old.source.left new.source.left bytes refuses.bytes left refuses.all.read.consumed refuses.all.whole (short bytes scene valid)) in
+    absurd (let e : Refused refuses.fault ≡ SceneText scene = sym refuses.faulty ∙ (same ∙ valid) in cc)
 complete words old new WordsRefused ends command bytes scene read left valid sure_source sure_sink = absurd (let e : None ≡ Some command = sym ends.0 ∙ read in cc)
 complete words old new ReadFault ends command bytes scene read left valid sure_source sure_sink = absurd (sure_source ends.1)
 complete words old new WriteFault ends command bytes scene read left valid sure_source sure_sink = absurd (sure_sink ends.wrote.cause.failed)

@@ -1,47 +1,79 @@
 -- What the writers of the jobs leave is what a run promises of its job.
-use Rattle.std.proofs.Common.{◌≡◌, List, ◌++◌, Ok, Err, refl, sym, ap, ◌∙◌}
+use Rattle.std.proofs.Common.{◌≡◌, List, [], ◌++◌, Ok, Err, refl, sym, ap, ◌∙◌}
 use Rattle.std.proofs.lemmas.List.{append-nil}
 use Rattle.icet_model.specs.Core.{start}
 use Rattle.icet_model.specs.Pixel.{Pixel}
-use Rattle.icet_model.specs.Plan.{PlanView}
+use Rattle.icet_model.specs.Plan.{PlanView, plan_exchanges}
 use Rattle.icet_model.specs.Replay.{replay_from, replay_text}
-use Rattle.icet_model.specs.Streams.{SinkView}
+use Rattle.icet_model.specs.Streams.{SinkView, WritesAll}
 use Rattle.icet_model.specs.Traffic.{PairTraffic}
 use Rattle.icet_scene_model.specs.Jobs.{composite_text}
-use Rattle.icet_scene_model.specs.Scene.{SceneView, SceneText}
-use Rattle.icet_scene_model.specs.Words.{Composite, Replay, Command}
-use Rattle.icet_multi.specs.declared.settings.Strategy.TheVariants.{Direct}
-use Rattle.icet_multi.specs.Strategies.{IsPlanOf}
-use Rattle.icet_jobs.specs.Composites.{composite_traffic, scene_tiles}
+use Rattle.icet_scene_model.specs.Scene.{SceneView}
+use Rattle.icet_scene_model.specs.Texts.{SceneText, Text}
+use Rattle.icet_scene_model.specs.declared.fault.SceneFault.{SceneFault}
+use Rattle.icet_scene_model.specs.declared.fault.SceneFault.TheVariants.{TooLong, BadByte, BadLine, OutOfPlace, OutOfRange, NotPremultiplied, RankTaken, BadOrder, Missing, TooLarge, NoMemory}
+use Rattle.icet_scene.specs.Readings.{IsFaultOfText}
+use Rattle.icet_words.specs.CommandLine.{Command}
+use Rattle.icet_words.specs.declared.job.Job.{Job}
+use Rattle.icet_words.specs.declared.job.Job.TheVariants.{Composite, Traffic, Plan, Replay}
+use Rattle.icet_base.specs.declared.faults.WriteFault.{WriteFault}
+use Rattle.icet_plan_text.specs.PlanTexts.{plan_text, traffic_text}
+use Rattle.icet_jobs.specs.Composites.{IsPlanFor, brackets_of, composite_traffic}
 use Rattle.icet_jobs.specs.Texts.{WritesText}
 use Rattle.icet_jobs.specs.declared.replay.JobFault.{JobFault}
 use Rattle.icet_jobs.specs.declared.replay.JobFault.TheVariants.{Write as JobWrite, NoMemory as JobMemory}
 use Rattle.icet_jobs.proofs.PlanExchanges.{plan_exchanges_are}
-use Rattle.icet_cli.specs.FaultNotes.{of_job}
-use Rattle.icet_cli.specs.JobEndings.{EndsWith, shown}
+use Rattle.icet_cli.specs.FaultNotes.{of_job, of_scene}
+use Rattle.icet_cli.specs.JobEndings.{EndsWith, Shown, shown}
 use Rattle.icet_cli.specs.Outcome.{text_for, job_text, traffic_for, job_traffic}
 
 module _ (command : Command) (scene : SceneView) where
-  pub replay_is : (plan : PlanView) → command.job ≡ Replay → IsPlanOf Direct scene.ranks (scene_tiles scene) plan → replay_text plan command.cap command.schedule ≡ job_text command scene
-  replay_is plan job is =
-      ap (λ all. replay_from all command.cap (start all) command.schedule) (plan_exchanges_are Direct scene.ranks (scene_tiles scene) plan is)
-      ∙ sym (ap (λ j. text_for j command.cap command.schedule scene) job)
+  job_is : (job : Job) → command.job ≡ job → text_for job command scene ≡ job_text command scene
+  job_is job e = sym (ap (λ j. text_for j command scene) e)
 
-  -- a replay leaves the wires as they were
-  pub replay_carries : (log : List (PairTraffic (List Pixel))) → command.job ≡ Replay → log ≡ log ++ job_traffic command scene
-  replay_carries log job = sym (append-nil log) ∙ ap (λ j. log ++ traffic_for j scene) (sym job)
+  module _ (plan : PlanView) (is : IsPlanFor command.settings scene plan) where
+    pub replay_is : command.job ≡ Replay → replay_text plan command.cap command.schedule ≡ job_text command scene
+    replay_is job = ap (λ all. replay_from all command.cap (start all) command.schedule) (plan_exchanges_are command.settings scene plan is) ∙ job_is Replay job
 
-  pub composite_is : command.job ≡ Composite → composite_text scene ≡ job_text command scene
-  composite_is job = sym (ap (λ j. text_for j command.cap command.schedule scene) job)
+    pub traffic_is : command.job ≡ Traffic → traffic_text (plan_exchanges plan) ≡ job_text command scene
+    traffic_is job = ap traffic_text (plan_exchanges_are command.settings scene plan is) ∙ job_is Traffic job
 
-  pub composite_carries : command.job ≡ Composite → composite_traffic Direct scene ≡ job_traffic command scene
-  composite_carries job = sym (ap (λ j. traffic_for j scene) job)
+    pub plan_is : command.job ≡ Plan → plan_text plan.brackets (plan_exchanges plan) ≡ job_text command scene
+    plan_is job = ap (λ bs. plan_text bs (plan_exchanges plan)) is.brackets ∙ ap (plan_text (brackets_of command.settings scene)) (plan_exchanges_are command.settings scene plan is) ∙ job_is Plan job
 
-  module _ {K : Type 0} (told : K → SinkView) (old new : K) (log : List (PairTraffic (List Pixel))) (job : command.job ≡ Replay) where
-    pub replay_written : WritesText told old new (Ok tt) (job_text command scene) → EndsWith command (SceneText scene) (shown (told old) log) (shown (told new) log) (Ok tt)
-    replay_written w = record { scene = scene; valid = refl; wrote = w; log = replay_carries log job }
+  -- a job that makes no picture leaves the wires as they were
+  carries_nothing : (log : List (PairTraffic (List Pixel))) (job : Job) → command.job ≡ job → traffic_for job command scene ≡ [] → log ≡ log ++ job_traffic command scene
+  carries_nothing log job e none = sym (append-nil log) ∙ ap (λ t. log ++ t) (sym none ∙ sym (ap (λ j. traffic_for j command scene) e))
+
+  pub composite_is : command.job ≡ Composite → composite_text scene (brackets_of command.settings scene) ≡ job_text command scene
+  composite_is job = job_is Composite job
+
+  pub composite_carries : command.job ≡ Composite → composite_traffic command.settings scene ≡ job_traffic command scene
+  composite_carries job = sym (ap (λ j. traffic_for j command scene) job)
+
+  module _ {K : Type 0} (told : K → SinkView) (old new : K) (log : List (PairTraffic (List Pixel))) (job : Job) (is_job : command.job ≡ job) (none : traffic_for job command scene ≡ []) where
+    pub job_written : WritesAll {E = WriteFault} (told old) (told new) (Ok tt) (job_text command scene) → EndsWith command (SceneText scene) (shown (told old) log) (shown (told new) log) (Ok tt)
+    job_written w = record { scene = scene; valid = refl; wrote = w; log = carries_nothing log job is_job none }
+
+    -- a text that was written in part
+    pub job_failed : WritesAll {E = WriteFault} (told old) (told new) (Err (record {})) (job_text command scene) → EndsWith command (SceneText scene) (shown (told old) log) (shown (told new) log) (Err (of_job JobWrite))
+    job_failed w = record { scene = scene; valid = refl; wrote = w; log = carries_nothing log job is_job none }
 
     -- a replay that wasn't written
     pub replay_failed : (fault : JobFault) → WritesText told old new (Err fault) (job_text command scene) → EndsWith command (SceneText scene) (shown (told old) log) (shown (told new) log) (Err (of_job fault))
-    replay_failed JobWrite w = record { scene = scene; valid = refl; wrote = w; log = replay_carries log job }
+    replay_failed JobWrite w = job_failed w
     replay_failed JobMemory w = ap (λ k. shown (told k) log) w
+
+-- a text that is refused with a fault, or whose reading wants memory
+pub scene_refused : (command : Command) (text : Text) (s : Shown) (fault : SceneFault) → IsFaultOfText fault text → EndsWith command text s s (Err (of_scene fault))
+scene_refused command text s TooLong e = (e, refl)
+scene_refused command text s (BadByte line) e = (e, refl)
+scene_refused command text s (BadLine line) e = (e, refl)
+scene_refused command text s (OutOfPlace line) e = (e, refl)
+scene_refused command text s (OutOfRange line) e = (e, refl)
+scene_refused command text s (NotPremultiplied line) e = (e, refl)
+scene_refused command text s (RankTaken line) e = (e, refl)
+scene_refused command text s (BadOrder line) e = (e, refl)
+scene_refused command text s (Missing want) e = (e, refl)
+scene_refused command text s TooLarge e = (e, refl)
+scene_refused command text s NoMemory e = refl

@@ -1,25 +1,22 @@
 -- What each fault of a run is noted as, and the status that it ends with.
 use Rattle.std.specs.Prelude.{◌≡◌, ℕ, List, Some, Result, Ok, Err}
 use Rattle.icet_model.specs.Streams.{SinkView}
-use Rattle.icet_scene_model.specs.FaultLines.{words_line, read_line, write_line, memory_line, text_line}
-use Rattle.icet_scene_model.specs.Scene.{TooLong as TooLongText, NotBuilt as NotBuiltText, TooLarge as TooLargeText}
-use Rattle.icet_scene_model.specs.Words.{Command, command_of}
+use Rattle.icet_scene_model.specs.FaultLines.{words_line, read_line, write_line, memory_line, scene_line}
+use Rattle.icet_words.specs.CommandLine.{Command, reading}
 use Rattle.icet_jobs.specs.declared.replay.JobFault.{JobFault}
 use Rattle.icet_jobs.specs.declared.replay.JobFault.TheVariants.{Write as JobWrite, NoMemory as JobMemory}
-use Rattle.icet_scene.specs.declared.fault.SceneFault.{SceneFault}
-use Rattle.icet_scene.specs.declared.fault.SceneFault.TheVariants.{TooLong as SceneTooLong, NotBuilt as SceneNotBuilt, TooLarge as SceneTooLarge, NoMemory as SceneMemory}
+use Rattle.icet_scene_model.specs.declared.fault.SceneFault.{SceneFault}
+use Rattle.icet_scene_model.specs.declared.fault.SceneFault.TheVariants.{NoMemory as SceneMemory}
 use Rattle.icet_cli.specs.Notes.{HasNoted}
 use Rattle.icet_cli.specs.Outcome.{RunsTo, Work, with_notes}
 use Rattle.icet_cli.specs.declared.run_fault.RunFault.{RunFault}
-use Rattle.icet_cli.specs.declared.run_fault.RunFault.TheVariants.{Words, Read, TooLong, NotBuilt, TooLarge, Write, NoMemory}
+use Rattle.icet_cli.specs.declared.run_fault.RunFault.TheVariants.{Words, Read, Scene, Write, NoMemory}
 use Rattle.icet_cli.specs.declared.status.Status.{Status}
 use Rattle.icet_cli.specs.declared.status.Status.TheVariants.{Ok as OkStatus, SceneRefused, WordsRefused, ReadFault, WriteFault, NoMemory as MemoryStatus}
 
 abbrev pub of_scene : SceneFault → RunFault
-of_scene SceneTooLong = TooLong
-of_scene (SceneNotBuilt line) = NotBuilt line
-of_scene SceneTooLarge = TooLarge
 of_scene SceneMemory = NoMemory
+of_scene fault = Scene fault
 
 abbrev pub of_job : JobFault → RunFault
 of_job JobWrite = Write
@@ -29,9 +26,7 @@ of_job JobMemory = NoMemory
 abbrev pub status_of : RunFault → Status
 status_of Words = WordsRefused
 status_of Read = ReadFault
-status_of TooLong = SceneRefused
-status_of (NotBuilt line) = SceneRefused
-status_of TooLarge = SceneRefused
+status_of (Scene fault) = SceneRefused
 status_of Write = WriteFault
 status_of NoMemory = MemoryStatus
 
@@ -39,9 +34,7 @@ status_of NoMemory = MemoryStatus
 abbrev pub line_of : RunFault → List ℕ
 line_of Words = words_line
 line_of Read = read_line
-line_of TooLong = text_line TooLongText
-line_of (NotBuilt line) = text_line (NotBuiltText line)
-line_of TooLarge = text_line TooLargeText
+line_of (Scene fault) = scene_line fault
 line_of Write = write_line
 line_of NoMemory = memory_line
 
@@ -61,4 +54,4 @@ Ends words old new result = (before after : SinkView) → IsNoted result before 
 
 -- a run of this command, whatever its words are
 abbrev pub CommandEnds : Command → Work → Work → Result (Unit {0}) RunFault → Type 0
-CommandEnds command old new result = (words : List (List ℕ)) → command_of words ≡ Some command → Ends words old new result
+CommandEnds command old new result = (words : List (List ℕ)) → reading words ≡ Some command → Ends words old new result

@@ -3,12 +3,13 @@ use Rattle.std.specs.Prelude.{◌≡◌, List, ◌++◌, Result, Ok, Err}
 use Rattle.icet_model.specs.Pixel.{Pixel}
 use Rattle.icet_model.specs.Streams.{SinkView, WritesAll}
 use Rattle.icet_model.specs.Traffic.{PairTraffic}
-use Rattle.icet_scene_model.specs.Scene.{SceneView, Text, SceneText, TooLong as TooLongText, NotBuilt as NotBuiltText, TooLarge as TooLargeText}
-use Rattle.icet_scene_model.specs.Words.{Command}
+use Rattle.icet_scene_model.specs.Scene.{SceneView}
+use Rattle.icet_scene_model.specs.Texts.{Text, SceneText, Refused}
+use Rattle.icet_words.specs.CommandLine.{Command}
 use Rattle.icet_base.specs.declared.faults.WriteFault.{WriteFault}
 use Rattle.icet_cli.specs.Outcome.{job_text, job_traffic}
 use Rattle.icet_cli.specs.declared.run_fault.RunFault.{RunFault}
-use Rattle.icet_cli.specs.declared.run_fault.RunFault.TheVariants.{Words, Read, TooLong, NotBuilt, TooLarge, Write, NoMemory}
+use Rattle.icet_cli.specs.declared.run_fault.RunFault.TheVariants.{Words, Read, Scene, Write, NoMemory}
 
 -- what sink and wires tell
 pub record Shown : Type 0 where
@@ -29,9 +30,7 @@ pub record WritesJob (command : Command) (text : Text) (old new : Shown) (result
 abbrev pub EndsWith : Command → Text → Shown → Shown → Result (Unit {0}) RunFault → Type 0
 EndsWith command text old new (Ok done) = WritesJob command text old new (Ok tt)
 EndsWith command text old new (Err Write) = WritesJob command text old new (Err (record {}))
-EndsWith command text old new (Err TooLong) = (text ≡ TooLongText) × (new ≡ old)
-EndsWith command text old new (Err (NotBuilt line)) = (text ≡ NotBuiltText line) × (new ≡ old)
-EndsWith command text old new (Err TooLarge) = (text ≡ TooLargeText) × (new ≡ old)
+EndsWith command text old new (Err (Scene fault)) = (text ≡ Refused fault) × (new ≡ old)
 EndsWith command text old new (Err NoMemory) = new ≡ old
 EndsWith command text old new (Err Words) = ⊥
 EndsWith command text old new (Err Read) = ⊥

@@ -1,4 +1,3 @@
-pub mod Commands
 pub mod FaultNotes
 pub mod JobEndings
 pub mod Notes

@@ -8,13 +8,17 @@ use Rattle.icet_model.specs.Pixel.{Pixel}
 use Rattle.icet_model.specs.Replay.{replay_from}
 use Rattle.icet_model.specs.Streams.{SourceView, SinkView, WritesAll}
 use Rattle.icet_model.specs.Traffic.{PairTraffic}
-use Rattle.icet_scene_model.specs.FaultLines.{words_line, read_line, write_line, memory_line, text_line}
+use Rattle.icet_scene_model.specs.FaultLines.{words_line, read_line, write_line, memory_line, scene_line}
 use Rattle.icet_scene_model.specs.Jobs.{composite_text}
-use Rattle.icet_scene_model.specs.Scene.{SceneView, SceneText, text_is}
-use Rattle.icet_scene_model.specs.Words.{Job, Composite, Replay, Command, command_of}
+use Rattle.icet_scene_model.specs.Scene.{SceneView}
+use Rattle.icet_scene_model.specs.Texts.{SceneText, Refused, text_is}
+use Rattle.icet_scene_model.specs.declared.fault.SceneFault.{SceneFault}
+use Rattle.icet_words.specs.CommandLine.{Command, reading}
+use Rattle.icet_words.specs.declared.job.Job.{Job}
+use Rattle.icet_words.specs.declared.job.Job.TheVariants.{Composite, Traffic, Plan, Replay}
 use Rattle.icet_base.specs.declared.faults.WriteFault.{WriteFault}
-use Rattle.icet_multi.specs.declared.settings.Strategy.TheVariants.{Direct}
-use Rattle.icet_jobs.specs.Composites.{composite_traffic, exchanges_of, scene_tiles}
+use Rattle.icet_plan_text.specs.PlanTexts.{plan_text, traffic_text}
+use Rattle.icet_jobs.specs.Composites.{brackets_of, composite_traffic, exchanges_of}
 use Rattle.icet_cli.specs.Notes.{HasNoted}
 use Rattle.icet_cli.specs.SceneBytes.{ReadsAll, ReadsFew}
 use Rattle.icet_cli.specs.declared.status.Status.{Status}
@@ -34,26 +38,30 @@ outside source sink notes log = record { source = source; sink = sink; notes = n
 abbrev pub texts : List (Bor (List ℕ)) → List (List ℕ)
 texts words = map (λ word. word.now) words
 
-abbrev pub text_for : Job → ℕ → List ℕ → SceneView → List ℕ
-text_for Composite cap schedule scene = composite_text scene
-text_for Replay cap schedule scene = replay_from (exchanges_of Direct scene.ranks (scene_tiles scene)) cap (start (exchanges_of Direct scene.ranks (scene_tiles scene))) schedule
+abbrev pub text_for : Job → Command → SceneView → List ℕ
+text_for Composite command scene = composite_text scene (brackets_of command.settings scene)
+text_for Traffic command scene = traffic_text (exchanges_of command.settings scene)
+text_for Plan command scene = plan_text (brackets_of command.settings scene) (exchanges_of command.settings scene)
+text_for Replay command scene = replay_from (exchanges_of command.settings scene) command.cap (start (exchanges_of command.settings scene)) command.schedule
 
--- what a command writes for a scene: the pictures of the plain composite, or the replay of the plan
+-- what a command writes for a scene: the pictures of the plain composite, the plan's messages, the plan, or its replay
 abbrev pub job_text : Command → SceneView → List ℕ
-job_text command scene = text_for command.job command.cap command.schedule scene
+job_text command scene = text_for command.job command scene
 
-abbrev pub traffic_for : Job → SceneView → List (PairTraffic (List Pixel))
-traffic_for Composite scene = composite_traffic Direct scene
-traffic_for Replay scene = []
+abbrev pub traffic_for : Job → Command → SceneView → List (PairTraffic (List Pixel))
+traffic_for Composite command scene = composite_traffic command.settings scene
+traffic_for Traffic command scene = []
+traffic_for Plan command scene = []
+traffic_for Replay command scene = []
 
--- what the wires carry for a command: the plan's messages with their pixels, and nothing for a replay
+-- what the wires carry for a command: the plan's messages with their pixels for a composite, and else nothing
 abbrev pub job_traffic : Command → SceneView → List (PairTraffic (List Pixel))
-job_traffic command scene = traffic_for command.job scene
+job_traffic command scene = traffic_for command.job command scene
 
 -- the words are a command
 pub record IsCommand (words : List (List ℕ)) : Type 0 where
   pub command : Command
-  pub is : command_of words ≡ Some command
+  pub is : reading words ≡ Some command
 
 -- nothing was written to the sink or carried, and the notes got the fault's line
 pub record Refuses (old new : Outside) (line : List ℕ) : Type 0 where
@@ -72,7 +80,7 @@ pub record ReadsScene (old new : Outside) (scene : SceneView) : Type 0 where
 -- the wires' log by exactly the job's traffic
 pub record Succeeds (words : List (List ℕ)) (old new : Outside) : Type 0 where
   pub command : Command
-  pub read_words : command_of words ≡ Some command
+  pub read_words : reading words ≡ Some command
   pub scene : SceneView
   pub reads : ReadsScene old new scene
   pub wrote : WritesAll {E = WriteFault} old.sink new.sink (OkResult tt) (job_text command scene)
@@ -82,25 +90,26 @@ pub record Succeeds (words : List (List ℕ)) (old new : Outside) : Type 0 where
 -- the sink failed, and grew by a front of the job's text; the log is as where all went well
 pub record FailsToWrite (words : List (List ℕ)) (old new : Outside) : Type 0 where
   pub command : Command
-  pub read_words : command_of words ≡ Some command
+  pub read_words : reading words ≡ Some command
   pub scene : SceneView
   pub reads : ReadsScene old new scene
   pub wrote : WritesAll {E = WriteFault} old.sink new.sink (Err (record {})) (job_text command scene)
   pub log : new.log ≡ old.log ++ job_traffic command scene
   pub noted : HasNoted old.notes new.notes write_line
 
--- the bytes read are no scene; they are all that was left, or more than a scene may have
+-- the bytes read are refused with a fault; they are all that was left, or more than a scene may have
 pub record RefusesScene (old new : Outside) : Type 0 where
   pub bytes : List ℕ
   pub all : ReadsAll old.source new.source bytes
-  pub faulty : (scene : SceneView) → text_is bytes ≡ SceneText scene → ⊥
-  pub refuses : Refuses old new (text_line (text_is bytes))
+  pub fault : SceneFault
+  pub faulty : text_is bytes ≡ Refused fault
+  pub refuses : Refuses old new (scene_line fault)
 
 -- what stands after a run on these words that ended with this status
 abbrev pub EndsAs : List (List ℕ) → Outside → Outside → Status → Type 0
 EndsAs words old new Ok = Succeeds words old new
 EndsAs words old new SceneRefused = IsCommand words × RefusesScene old new
-EndsAs words old new WordsRefused = (command_of words ≡ None) × (new.source ≡ old.source) × Refuses old new words_line
+EndsAs words old new WordsRefused = (reading words ≡ None) × (new.source ≡ old.source) × Refuses old new words_line
 EndsAs words old new ReadFault = IsCommand words × Rose old.source.faults new.source.faults × Refuses old new read_line
 EndsAs words old new SinkFailed = FailsToWrite words old new
 EndsAs words old new NoMemory = (new.source.faults ≡ old.source.faults) × Refuses old new memory_line
@@ -109,7 +118,7 @@ EndsAs words old new NoMemory = (new.source.faults ≡ old.source.faults) × Ref
 -- well or memory is wanting
 abbrev pub IsComplete : List (List ℕ) → Outside → Outside → Status → Type 0
 IsComplete words old new status =
-    (command : Command) (bytes : List ℕ) (scene : SceneView) → command_of words ≡ Some command → old.source.left ≡ Some bytes → text_is bytes ≡ SceneText scene
+    (command : Command) (bytes : List ℕ) (scene : SceneView) → reading words ≡ Some command → old.source.left ≡ Some bytes → text_is bytes ≡ SceneText scene
     → (Rose old.source.faults new.source.faults → ⊥) → (Rose old.sink.faults new.sink.faults → ⊥) → (status ≡ Ok) ⊎ (status ≡ NoMemory)
 
 -- the promise of a run on these words

@@ -1,35 +1,22 @@
 ghost use Rattle.std.specs.Prelude.{◌≡◌, List};
 ghost use Rattle.icet_model.specs.Pixel.{Pixel};
 ghost use Rattle.icet_model.specs.Traffic.{PairTraffic};
-ghost use Rattle.icet_scene_model.specs.Scene.{SceneText, text_is};
-ghost use Rattle.icet_scene_model.specs.Words.{Composite, Replay};
+ghost use Rattle.icet_scene_model.specs.Texts.{SceneText, text_is};
+ghost use Rattle.icet_words.specs.declared.job.Job.TheVariants.{Composite, Traffic, Plan, Replay};
 ghost use Rattle.icet_cli.specs.FaultNotes.{status_for};
 ghost use Rattle.icet_cli.specs.JobEndings.{EndsWith, shown};
 ghost use Rattle.icet_cli.specs.Untouched.{LeavesOwed, LeavesSink, LeavesWires};
 
-use crate::command::{Command, Job};
 use crate::run_fault::RunFault;
 use icet_base::{Gate, Sink};
 use icet_jobs::{Way, composite, plan_of, write_pictures, write_replay};
-use icet_multi::{Settings, Single, Strategy};
+use icet_plan_text::{write_plan, write_traffic};
 use icet_ring::Wires;
 use icet_scene::read::read;
 use icet_scene::scene::Scene;
+use icet_words::{Command, Job};
 use std::alloc::Global;
 use std::thread::Threads;
-
-/// What every plan is made by, as long as there is one strategy.
-const SETTINGS: Settings = Settings {
-    strategy: Strategy::Direct,
-    single: Single::Tree,
-    k: 8,
-};
-
-/// How many workers step the ranks.
-const PLAIN_WORKERS: u32 = 2;
-
-/// How many exchanges a rank may make in a turn.
-const PLAIN_BURST: u32 = 16;
 
 /// Does the job of a command with the scene of a text.
 pub fn do_text<K: Sink, W: Wires, G: Gate, R: Threads + Sync>(
@@ -50,6 +37,8 @@ pub fn do_text<K: Sink, W: Wires, G: Gate, R: Threads + Sync>(
     let scene = read(alloc, bytes)?;
     match command.job() {
         Job::Composite => composite_scene(rt, alloc, command, &scene, sink, wires, gate),
+        Job::Traffic => write_scene_traffic(alloc, command, &scene, sink),
+        Job::Plan => write_scene_plan(alloc, command, &scene, sink),
         Job::Replay => replay_scene(alloc, command, &scene, sink),
     }
 }
@@ -72,14 +61,48 @@ fn composite_scene<K: Sink, W: Wires, G: Gate, R: Threads + Sync>(
     ensures owed { LeavesOwed (status_for result) (W.owed wires.old) (W.owed wires.new) }
 {
     let way = Way {
-        settings: SETTINGS,
+        settings: command.settings(),
         cap: command.cap(),
-        workers: PLAIN_WORKERS,
-        burst: PLAIN_BURST,
-        strands: 1,
+        workers: command.workers(),
+        burst: command.burst(),
+        strands: command.strands(),
     };
     let outcome = composite(rt, alloc, scene, &way, wires, gate)?;
     write_pictures(sink, scene, &outcome)?;
+    Ok(())
+}
+
+/// Writes the messages of a scene's plan.
+fn write_scene_traffic<K: Sink>(
+    alloc: Global,
+    command: &Command,
+    scene: &Scene,
+    sink: &mut K,
+) -> Result<(), RunFault>
+    requires { command.now.job ≡ Traffic }
+    ensures ends { (log : List (PairTraffic (List Pixel))) → EndsWith command.now (SceneText scene.now)
+        (shown (K.told sink.old) log) (shown (K.told sink.new) log) result }
+    ensures sink { LeavesSink (status_for result) sink.old sink.new }
+{
+    let plan = plan_of(alloc, scene, &command.settings())?;
+    write_traffic(sink, &plan)?;
+    Ok(())
+}
+
+/// Writes a scene's plan.
+fn write_scene_plan<K: Sink>(
+    alloc: Global,
+    command: &Command,
+    scene: &Scene,
+    sink: &mut K,
+) -> Result<(), RunFault>
+    requires { command.now.job ≡ Plan }
+    ensures ends { (log : List (PairTraffic (List Pixel))) → EndsWith command.now (SceneText scene.now)
+        (shown (K.told sink.old) log) (shown (K.told sink.new) log) result }
+    ensures sink { LeavesSink (status_for result) sink.old sink.new }
+{
+    let plan = plan_of(alloc, scene, &command.settings())?;
+    write_plan(sink, &plan)?;
     Ok(())
 }
 
@@ -95,8 +118,7 @@ fn replay_scene<K: Sink>(
         (shown (K.told sink.old) log) (shown (K.told sink.new) log) result }
     ensures sink { LeavesSink (status_for result) sink.old sink.new }
 {
-    let _ranks = scene.ranks();
-    let plan = plan_of(alloc, scene, &SETTINGS)?;
+    let plan = plan_of(alloc, scene, &command.settings())?;
     write_replay(alloc, sink, &plan, command.cap(), command.schedule())?;
     Ok(())
 }

@@ -1,7 +1,6 @@
-//! The words of the command line, and the top call, which is all that the program does.
+//! The top call, which is all that the program does: words, scene, job, and the notes of a fault.
 #![tactic(auto)]
 
-mod command;
 mod jobs;
 mod notes;
 mod run_fault;

@@ -1,7 +1,7 @@
 use crate::status::Status;
 use icet_base::{NoMemory as WantOfMemory, ReadFault, WriteFault};
 use icet_jobs::JobFault;
-use icet_scene::fault::SceneFault;
+use icet_scene::SceneFault;
 use std::alloc::AllocError;
 
 /// Why a run ended without its whole text.
@@ -11,12 +11,8 @@ pub enum RunFault {
     Words,
     /// The source failed.
     Read,
-    /// The scene's text is longer than a scene's may be.
-    TooLong,
-    /// The line of the scene's text that isn't the one that has to stand there, counted from 1.
-    NotBuilt(u32),
-    /// Ranks times the tile's pixels exceed 67,108,864.
-    TooLarge,
+    /// The source's bytes are no scene.
+    Scene(SceneFault),
     /// The sink failed.
     Write,
     /// Memory was wanted and not there.
@@ -34,9 +30,7 @@ impl RunFault {
         match self {
             RunFault::Words => Status::WordsRefused,
             RunFault::Read => Status::ReadFault,
-            RunFault::TooLong => Status::SceneRefused,
-            RunFault::NotBuilt(_) => Status::SceneRefused,
-            RunFault::TooLarge => Status::SceneRefused,
+            RunFault::Scene(_) => Status::SceneRefused,
             RunFault::Write => Status::WriteFault,
             RunFault::NoMemory => Status::NoMemory,
         }
@@ -62,10 +56,8 @@ impl From<SceneFault> for RunFault {
 
     fn from(fault: SceneFault) -> RunFault {
         match fault {
-            SceneFault::TooLong => RunFault::TooLong,
-            SceneFault::NotBuilt(line) => RunFault::NotBuilt(line),
-            SceneFault::TooLarge => RunFault::TooLarge,
             SceneFault::NoMemory => RunFault::NoMemory,
+            other => RunFault::Scene(other),
         }
     }
 }

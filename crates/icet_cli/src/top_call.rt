@@ -3,7 +3,6 @@ ghost use Rattle.icet_cli.specs.FaultNotes.{status_for, CommandEnds, Ends};
 ghost use Rattle.icet_cli.specs.Outcome.{outside, texts, work, RunsTo};
 ghost use Rattle.icet_cli.specs.Untouched.{LeavesNotes, LeavesOwed, LeavesSink, LeavesSource, LeavesWires};
 
-use crate::command::{Command, read_words};
 use crate::jobs::do_text;
 use crate::notes::note_fault;
 use crate::run_fault::RunFault;
@@ -11,6 +10,7 @@ use crate::scene_bytes::read_all;
 use crate::status::Status;
 use icet_base::{Gate, Sink, Source};
 use icet_ring::Wires;
+use icet_words::{Command, read_words};
 use std::alloc::Global;
 use std::thread::Threads;
 

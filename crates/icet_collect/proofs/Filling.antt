@@ -1,7 +1,7 @@
 -- A canvas filled piece by piece: it shows the pieces that were placed, and in the end the wanted picture.
-use Rattle.std.proofs.Common.{◌≡◌, ⊎_elim, ℕ, ◌-◌, ◌*◌, ◌<◌, ◌≤◌, Bool, true, false, cond, ◌&&◌, ◌||◌, leb, ltb, eqb, List, [], ◌∷◌, ◌++◌, length, map, filter, get_or, replicate, None, refl, sym, ◌∙◌, ap, arith, length-append}
+use Rattle.std.proofs.Common.{◌≡◌, ⊎_elim, ℕ, ◌-◌, ◌*◌, ◌<◌, ◌≤◌, Bool, true, false, cond, ◌||◌, List, [], ◌∷◌, ◌++◌, length, map, filter, get_or, replicate, None, refl, sym, ◌∙◌, ap, arith, length-append}
 use Rattle.std.specs.List.{list_any, range_with_len}
-use Rattle.std.proofs.lemmas.Bool.{both_ways, and_parts, leb-true, ltb-true, cases_lt, cond-true}
+use Rattle.std.proofs.lemmas.Bool.{both_ways, cases_lt, cond-true}
 use Rattle.std.proofs.lemmas.List.{ext_get_or, get_or-replicate, get_or_past, length-replicate}
 use Rattle.std.proofs.lemmas.List.Elements.{filter-append}
 use Rattle.std.proofs.lemmas.List.FromFn.{get_or-map-range_with_len, length-map-range_with_len}
@@ -10,6 +10,7 @@ use Rattle.icet_model.specs.Run.{Piece}
 use Rattle.icet_model.specs.Plan.{has_place}
 use Rattle.icet_collect.specs.Collect.{CanvasView, blank_canvas, IsFree, IsFull, Places, Shows, HasWanted}
 use Rattle.icet_model.proofs.Lists.{any_last}
+use Rattle.icet_collect.proofs.Positions.{in_range}
 
 blank_place : (n i : ℕ) → get_or (replicate n false) i false ≡ false
 blank_place n i = ⊎_elim (λ (h : i < n). get_or-replicate n i false false h) (λ (h : n ≤ i). get_or_past (replicate n false) i false (rw (length-replicate n false) h)) (cases_lt i n)
@@ -19,13 +20,6 @@ shows_blank wanted tile w h strands = record {
   placed = λ i. blank_place (w * h) i;
   pixels = λ i e. absurd (both_ways (get_or (replicate (w * h) false) i false) (blank_place (w * h) i) e);
 }
-
--- a position of the piece lies in its range
-in_range : (t i : ℕ) (p : Piece (List Pixel)) → has_place t i p ≡ true → (p.lo ≤ i) × (i < p.hi)
-in_range t i p e =
-    let range = (and_parts (eqb p.tile t) (leb p.lo i && ltb i p.hi) e).1 in
-    let ends = and_parts (leb p.lo i) (ltb i p.hi) range in
-    (leb-true p.lo i ends.0, ltb-true i p.hi ends.1)
 
 wanted_at : (wanted : ℕ → Pixel) (c : CanvasView) (ps : List (Piece (List Pixel))) (p : Piece (List Pixel)) → Shows wanted c ps → HasWanted wanted p → (i : ℕ) (b : Bool) → has_place c.tile i p ≡ b → (b || get_or c.placed i false) ≡ true → cond b (get_or p.content (i - p.lo) None) (get_or c.pixels i None) ≡ wanted i
 wanted_at wanted c ps p shows has i true q e = let r = in_range c.tile i p q in has i r.0 r.1

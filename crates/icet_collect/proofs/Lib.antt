@@ -1,2 +1,3 @@
+pub mod Stretches
 pub mod Filling
 pub mod Positions

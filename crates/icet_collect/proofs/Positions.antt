@@ -1,10 +1,10 @@
 -- How many positions are left, and a piece placed position by position.
-use Rattle.std.proofs.Common.{◌≡◌, ◌≢◌, ⊎_elim, ℕ, zero, suc, ◌+◌, ◌-◌, ◌<◌, ◌≤◌, Bool, true, false, cond, ◌&&◌, ◌||◌, leb, ltb, eqb, List, [], ◌∷◌, length, get_or, set, replicate, None, refl, sym, ◌∙◌, ap, subst, arith, get_or-set_same, get_or-set_other}
-use Rattle.std.proofs.lemmas.Bool.{true≢false, false≢true, lt-ltb, le-ltb, le-leb, lt-leb, eq-eqb, cases_eq, cases_lt, and_right, and_left, and_from}
-use Rattle.icet_model.specs.Pixel.{Pixel}
+use Rattle.std.proofs.Common.{◌≡◌, ◌≢◌, ⊎_elim, ℕ, zero, suc, ◌+◌, ◌-◌, ◌<◌, ◌≤◌, Bool, true, false, cond, ◌&&◌, ◌||◌, leb, ltb, eqb, List, [], ◌∷◌, length, get_or, set, replicate, map, Some, None, refl, sym, ◌∙◌, ap, subst, arith, get_or-set_same, get_or-set_other}
+use Rattle.std.proofs.lemmas.Bool.{true≢false, false≢true, lt-ltb, le-ltb, le-leb, lt-leb, eq-eqb, cases_eq, cases_lt, and_right, and_left, and_from, and_parts, leb-true, ltb-true}
+use Rattle.icet_model.specs.Pixel.{Pixel, FragmentView}
 use Rattle.icet_model.specs.Run.{Piece}
 use Rattle.icet_model.specs.Plan.{has_place}
-use Rattle.icet_collect.specs.Collect.{CanvasView, IsFree, Places, left_in}
+use Rattle.icet_collect.specs.Collect.{CanvasView, IsFree, Places, left_in, with_pixel, stretch}
 
 pub left_in_blank : (n : ℕ) → left_in (replicate n false) ≡ n
 left_in_blank zero = refl
@@ -31,10 +31,6 @@ left_none (false ∷ xs) f = absurd (false≢true (f 0 (omega arith)))
 -- the piece without what is behind a position
 abbrev pub below : Piece (List Pixel) → ℕ → Piece (List Pixel)
 below p i = record { tile = p.tile; lo = p.lo; hi = i; content = p.content }
-
--- the canvas with one more position placed
-abbrev pub with_pixel : CanvasView → ℕ → Pixel → CanvasView
-with_pixel c i v = record { tile = c.tile; w = c.w; h = c.h; strands = c.strands; placed = set c.placed i true; pixels = set c.pixels i v }
 
 ltb_step : (k i : ℕ) → k ≢ i → ltb k (i + 1) ≡ ltb k i
 ltb_step k i ne = ⊎_elim (λ (h : k < i). lt-ltb k (i + 1) (omega arith) ∙ sym (lt-ltb k i h)) (λ (h : i ≤ k). le-ltb k (i + 1) (omega arith) ∙ sym (le-ltb k i h)) (cases_lt k i)
@@ -82,6 +78,76 @@ places_more a b c p i v at e h l m ve ce = subst (λ x. Places a x (below p (i +
   pixels = λ k. ⊎_elim (λ (q : k ≡ i). subst (λ j. get_or (set b.pixels i v) j None ≡ cond (has_place a.tile j (below p (i + 1))) (get_or p.content (j - p.lo) None) (get_or a.pixels j None)) (sym q) (get_or-set_same b.pixels i v None m ∙ ve ∙ ap (λ t. cond t (get_or p.content (i - p.lo) None) (get_or a.pixels i None)) (sym (has_new a.tile p i e h)))) (λ (q : k ≢ i). get_or-set_other b.pixels i k v None q ∙ at.pixels k ∙ ap (λ t. cond t (get_or p.content (k - p.lo) None) (get_or a.pixels k None)) (sym (has_other a.tile p i k q))) (cases_eq k i);
 })
 
--- the next position is free
-pub places_free : (a b : CanvasView) (p : Piece (List Pixel)) (i : ℕ) → Places a b (below p i) → IsFree a p → p.tile ≡ a.tile → p.lo ≤ i → i < p.hi → get_or b.placed i false ≡ false
-places_free a b p i at free e h k = at.placed i ∙ ap (λ t. t || get_or a.placed i false) (has_behind a.tile p i i (omega arith)) ∙ free i (has_inside a.tile p i e h k)
+-- the positions behind are free
+pub places_free : (a b : CanvasView) (p : Piece (List Pixel)) (i j : ℕ) → Places a b (below p i) → IsFree a p → p.tile ≡ a.tile → p.lo ≤ i → i ≤ j → j < p.hi → get_or b.placed j false ≡ false
+places_free a b p i j at free e h l k = at.placed j ∙ ap (λ t. t || get_or a.placed j false) (has_behind a.tile p i j l) ∙ free j (has_inside a.tile p j e (omega arith) k)
+
+-- a position of the piece lies in its range
+pub in_range : (t i : ℕ) (p : Piece (List Pixel)) → has_place t i p ≡ true → (p.lo ≤ i) × (i < p.hi)
+in_range t i p e =
+    let range = (and_parts (eqb p.tile t) (leb p.lo i && ltb i p.hi) e).1 in
+    let ends = and_parts (leb p.lo i) (ltb i p.hi) range in
+    (leb-true p.lo i ends.0, ltb-true i p.hi ends.1)
+
+-- the next stretch is free
+pub stretch_free : (a b : CanvasView) (p : Piece (List Pixel)) (i : ℕ) (ps : List Pixel) → Places a b (below p i) → IsFree a p → p.tile ≡ a.tile → p.lo ≤ i → i + length ps ≤ p.hi → IsFree b (stretch b.tile i ps)
+stretch_free a b p i ps at free e h k j inside = let r = in_range b.tile j (stretch b.tile i ps) inside in places_free a b p i j at free e h r.0 (omega arith)
+
+module _ (a b c : CanvasView) (p : Piece (List Pixel)) (at : ℕ) (ps : List Pixel) (front : Places a b (below p at)) (next : Places b c (stretch b.tile at ps)) (e : p.tile ≡ a.tile) (h : p.lo ≤ at) (same : (k : ℕ) → k < length ps → get_or ps k None ≡ get_or p.content (at - p.lo + k) None) where
+  before_it : (k : ℕ) → k < at → (has_place b.tile k (stretch b.tile at ps) ≡ false) × (has_place a.tile k (below p (at + length ps)) ≡ has_place a.tile k (below p at))
+  before_it k l = (and_right (eqb b.tile b.tile) (leb at k && ltb k (at + length ps)) (and_left (leb at k) (ltb k (at + length ps)) (lt-leb at k l)), ap (λ t. eqb p.tile a.tile && (leb p.lo k && t)) (lt-ltb k (at + length ps) (omega arith) ∙ sym (lt-ltb k at l)))
+
+  in_it : (k : ℕ) → at ≤ k → k < at + length ps → (has_place b.tile k (stretch b.tile at ps) ≡ true) × (has_place a.tile k (below p (at + length ps)) ≡ true)
+  in_it k l m = (has_inside b.tile (stretch b.tile at ps) k refl l m, has_inside a.tile (below p (at + length ps)) k e (omega arith) m)
+
+  behind_it : (k : ℕ) → at + length ps ≤ k → (has_place b.tile k (stretch b.tile at ps) ≡ false) × (has_place a.tile k (below p (at + length ps)) ≡ false) × (has_place a.tile k (below p at) ≡ false)
+  behind_it k l = (has_behind b.tile (stretch b.tile at ps) (at + length ps) k l, has_behind a.tile p (at + length ps) k l, has_behind a.tile p at k (omega arith))
+
+  by_place : (k : ℕ) (P : Type 0) → (k < at → P) → (at ≤ k → k < at + length ps → P) → (at + length ps ≤ k → P) → P
+  by_place k P x y z = ⊎_elim x (λ (g : at ≤ k). ⊎_elim (y g) z (cases_lt k (at + length ps))) (cases_lt k at)
+
+  placed_is : (k : ℕ) → get_or c.placed k false ≡ (has_place a.tile k (below p (at + length ps)) || get_or a.placed k false)
+  placed_is k = next.placed k ∙ by_place k ((has_place b.tile k (stretch b.tile at ps) || get_or b.placed k false) ≡ (has_place a.tile k (below p (at + length ps)) || get_or a.placed k false))
+      (λ l. let r = before_it k l in rw (r.0, r.1) (front.placed k))
+      (λ l m. let r = in_it k l m in rw (r.0, r.1))
+      (λ l. let r = behind_it k l in rw (r.0, r.1) (front.placed k ∙ rw r.2))
+
+  pixel_is : (k : ℕ) → get_or c.pixels k None ≡ cond (has_place a.tile k (below p (at + length ps))) (get_or p.content (k - p.lo) None) (get_or a.pixels k None)
+  pixel_is k = next.pixels k ∙ by_place k (cond (has_place b.tile k (stretch b.tile at ps)) (get_or ps (k - at) None) (get_or b.pixels k None) ≡ cond (has_place a.tile k (below p (at + length ps))) (get_or p.content (k - p.lo) None) (get_or a.pixels k None))
+      (λ l. let r = before_it k l in rw (r.0, r.1) (front.pixels k))
+      (λ l m. let r = in_it k l m in let place : at - p.lo + (k - at) ≡ k - p.lo = omega arith in rw (r.0, r.1) (same (k - at) (omega arith) ∙ ap (λ i. get_or p.content i None) place))
+      (λ l. let r = behind_it k l in rw (r.0, r.1) (front.pixels k ∙ rw r.2))
+
+  -- the next stretch is placed
+  pub places_join : Places a c (below p (at + length ps))
+  places_join = record {
+    tile = next.tile ∙ front.tile;
+    w = next.w ∙ front.w;
+    h = next.h ∙ front.h;
+    strands = next.strands ∙ front.strands;
+    placed = placed_is;
+    pixels = pixel_is;
+  }
+
+-- the pixels at which none is placed stay None
+pub blank_pixel : (n i : ℕ) → get_or (replicate {A = Pixel} n None) i None ≡ None
+blank_pixel zero i = refl
+blank_pixel (suc n) zero = refl
+blank_pixel (suc n) (suc i) = blank_pixel n i
+
+-- one of several blank pixels
+pub blank_of : (n k : ℕ) → None ≡ get_or (replicate {A = Pixel} n None) k None
+blank_of n k = sym (blank_pixel n k)
+
+pub still_blank : (placed : List Bool) (pixels : List Pixel) (i : ℕ) (v : Pixel) → i < length placed → ((k : ℕ) → get_or placed k false ≡ false → get_or pixels k None ≡ None) → (k : ℕ) → get_or (set placed i true) k false ≡ false → get_or (set pixels i v) k None ≡ None
+still_blank placed pixels i v l blank k e = ⊎_elim (λ (q : k ≡ i). absurd (true≢false (sym (subst (λ j. get_or (set placed i true) j false ≡ true) (sym q) (get_or-set_same placed i true false l)) ∙ e))) (λ (q : k ≢ i). get_or-set_other pixels i k v None q ∙ blank k (sym (get_or-set_other placed i k true false q) ∙ e)) (cases_eq k i)
+
+-- where nothing is drawn the pixels stay as they are
+pub marked_blank : (placed : List Bool) (pixels : List Pixel) (i : ℕ) → i < length placed → ((k : ℕ) → get_or placed k false ≡ false → get_or pixels k None ≡ None) → (k : ℕ) → get_or (set placed i true) k false ≡ false → get_or pixels k None ≡ None
+marked_blank placed pixels i l blank k e = ⊎_elim (λ (q : k ≡ i). absurd (true≢false (sym (subst (λ j. get_or (set placed i true) j false ≡ true) (sym q) (get_or-set_same placed i true false l)) ∙ e))) (λ (q : k ≢ i). blank k (sym (get_or-set_other placed i k true false q) ∙ e)) (cases_eq k i)
+
+-- a pixel of a stretch that is drawn
+pub drawn_pixel : (fs : List FragmentView) (k : ℕ) (f : FragmentView) → k < length fs → f ≡ get_or fs k f → Some f ≡ get_or (map Some fs) k None
+drawn_pixel [] k f h e = absurd (omega arith)
+drawn_pixel (g ∷ fs) zero f h e = ap (λ x. Some x) e
+drawn_pixel (g ∷ fs) (suc k) f h e = drawn_pixel fs k f (omega arith) e

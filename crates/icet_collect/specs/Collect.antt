@@ -1,9 +1,10 @@
 -- Canvases: which positions of a tile are placed, and their pixels.
-use Rattle.std.specs.Prelude.{◌≡◌, ℕ, ◌-◌, ◌*◌, ◌<◌, ◌≤◌, suc, Bool, true, false, cond, ◌||◌, List, [], ◌∷◌, length, get_or, replicate, None}
+use Rattle.std.specs.Prelude.{◌≡◌, ℕ, ◌+◌, ◌-◌, ◌*◌, ◌<◌, ◌≤◌, suc, Bool, true, false, cond, ◌||◌, List, [], ◌∷◌, length, get_or, replicate, slice_set, None}
 use Rattle.std.specs.List.{list_any}
 use Rattle.icet_model.specs.Pixel.{Pixel}
 use Rattle.icet_model.specs.Run.{Piece}
 use Rattle.icet_model.specs.Plan.{has_place}
+use Rattle.icet_model.specs.declared.limits.TheConstants.{MAX_RANK_PIXELS}
 
 -- what contracts see of a canvas: for each position whether it was placed, and its pixel
 pub record CanvasView : Type 0 where
@@ -20,7 +21,7 @@ blank_canvas tile w h strands = record { tile = tile; w = w; h = h; strands = st
 
 -- a canvas has `w` times `h` positions, at most 67,108,864
 pub record IsCanvas (c : CanvasView) : Type 0 where
-  pub most : c.w * c.h ≤ 67108864
+  pub most : c.w * c.h ≤ MAX_RANK_PIXELS
   pub places : length c.placed ≡ c.w * c.h
   pub size : length c.pixels ≡ c.w * c.h
 
@@ -47,10 +48,19 @@ left_in [] = 0
 left_in (true ∷ xs) = left_in xs
 left_in (false ∷ xs) = suc (left_in xs)
 
--- a canvas counts the positions that are left
+-- a canvas counts the positions that are left, and has no pixel at them
 pub record Counts (c : CanvasView) (left : ℕ) : Type 0 where
   pub canvas : IsCanvas c
   pub count : left ≡ left_in c.placed
+  pub blank_left : (i : ℕ) → get_or c.placed i false ≡ false → get_or c.pixels i None ≡ None
+
+-- the canvas with one more position placed
+abbrev pub with_pixel : CanvasView → ℕ → Pixel → CanvasView
+with_pixel c i pixel = record { tile = c.tile; w = c.w; h = c.h; strands = c.strands; placed = slice_set c.placed i true; pixels = slice_set c.pixels i pixel }
+
+-- these pixels of a tile from a position on
+abbrev pub stretch : ℕ → ℕ → List Pixel → Piece (List Pixel)
+stretch tile at ps = record { tile = tile; lo = at; hi = at + length ps; content = ps }
 
 -- the positions of these pieces are placed and no others, and each placed one has its wanted pixel
 pub record Shows (wanted : ℕ → Pixel) (c : CanvasView) (ps : List (Piece (List Pixel))) : Type 0 where

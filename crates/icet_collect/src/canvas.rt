@@ -1,8 +1,9 @@
-ghost use Rattle.std.specs.Prelude.{◌≡◌, ℕ, ◌*◌, ◌<◌, ◌≤◌, ◌↔◌, IfOk, IsTrue, true, false, length, slice_set, get_or};
-ghost use Rattle.icet_collect.specs.Collect.{CanvasView, blank_canvas, IsCanvas, IsFree, IsFull, Places};
+ghost use Rattle.std.specs.Prelude.{◌≡◌, ℕ, ◌+◌, ◌*◌, ◌<◌, ◌≤◌, ◌^◌, ◌↔◌, IfOk, IsTrue, Some, None, false, length, map, replicate, get_or};
+ghost use Rattle.icet_collect.specs.Collect.{CanvasView, blank_canvas, with_pixel, stretch, IsCanvas, IsFree, IsFull, Places};
+ghost use Rattle.icet_model.specs.declared.limits.TheConstants.{MAX_RANK_PIXELS};
 
 use icet_base::NoMemory;
-use icet_pixel::{Dense, Pixel};
+use icet_pixel::{Dense, Fragment, Pixel};
 use icet_sparse::Sparse;
 use std::alloc::Global;
 use std::marker::Model;
@@ -34,7 +35,7 @@ impl Canvas {
     /// A canvas of `w` by `h` positions, none of them placed. Condition: there are at most 67,108,864
     /// positions, and one strand.
     pub fn blank(alloc: Global, tile: u32, w: u32, h: u32, strands: u32) -> Result<Canvas, NoMemory>
-        requires most { w * h ≤ 67108864 }
+        requires most { w * h ≤ MAX_RANK_PIXELS }
         requires strands { strands ≡ 1 }
         ensures { IfOk result (λ c. c ≡ blank_canvas tile w h strands) }
     {
@@ -52,28 +53,69 @@ impl Canvas {
         })
     }
 
-    /// Puts the pixels of a piece at its positions, and leaves all others. Condition: the piece is one
-    /// of the canvas's tile, its positions are some of the canvas's, and none of them was placed.
+    /// Puts the pixels of a piece at its positions, run by run, and leaves all others. Condition: the
+    /// piece is one of the canvas's tile, its positions are some of the canvas's, and none of them was
+    /// placed.
     pub fn place(&mut self, piece: &Sparse)
         requires tile { piece.now.tile ≡ self.old.tile }
         requires inside { piece.now.hi ≤ self.old.w * self.old.h }
         requires free { IsFree self.old piece.now }
         ensures { Places self.old self.new piece.now }
     {
-        'placing: for i in piece.lo()..piece.hi() {
-            self.put(i, piece.get(i));
+        let mut walk = piece.walk();
+        let mut at = piece.lo();
+        'placing: while at < piece.hi() {
+            let stretch = walk.next(piece.hi() - at);
+            self.leave_blank(at, stretch.blank);
+            self.put_run(at + stretch.blank, stretch.drawn);
+            at += stretch.len();
         }
     }
 
-    /// Puts one pixel at a position that was not placed.
-    fn put(&mut self, i: u32, pixel: Pixel)
+    /// Marks so many positions as placed and leaves them None.
+    fn leave_blank(&mut self, at: u32, count: u32)
+        requires fits { at + count < 2 ^ 32 }
+        requires inside { at + count ≤ self.old.w * self.old.h }
+        requires free { IsFree self.old (stretch self.old.tile at (replicate count None)) }
+        ensures { Places self.old self.new (stretch self.old.tile at (replicate count None)) }
+    {
+        'leaving: for i in at..at + count {
+            self.mark(i);
+        }
+    }
+
+    /// Puts drawn pixels at as many positions from `at` on.
+    fn put_run(&mut self, at: u32, fragments: &[Fragment])
+        requires fits { at + length fragments.now < 2 ^ 32 }
+        requires inside { at + length fragments.now ≤ self.old.w * self.old.h }
+        requires free { IsFree self.old (stretch self.old.tile at (map Some fragments.now)) }
+        ensures { Places self.old self.new (stretch self.old.tile at (map Some fragments.now)) }
+    {
+        'putting: for i in at..at + fragments.len() as u32 {
+            self.put(i, fragments[(i - at) as usize]);
+        }
+    }
+
+    /// Puts a drawn pixel at a position that was not placed.
+    fn put(&mut self, i: u32, fragment: Fragment)
         requires inside { i < self.old.w * self.old.h }
         requires free { get_or self.old.placed i false ≡ false }
-        ensures value { self.new ≡ record { tile = self.old.tile; w = self.old.w; h = self.old.h; strands = self.old.strands; placed = slice_set self.old.placed i true; pixels = slice_set self.old.pixels i pixel } }
+        ensures value { self.new ≡ with_pixel self.old i (Some fragment) }
         ensures known { IsCanvas self.old }
     {
         self.placed[i as usize] = true;
-        self.pixels[i as usize] = pixel;
+        self.pixels[i as usize] = Some(fragment);
+        self.left -= 1;
+    }
+
+    /// Marks a position that was not placed; its pixel is None already.
+    fn mark(&mut self, i: u32)
+        requires inside { i < self.old.w * self.old.h }
+        requires free { get_or self.old.placed i false ≡ false }
+        ensures value { self.new ≡ with_pixel self.old i None }
+        ensures known { IsCanvas self.old }
+    {
+        self.placed[i as usize] = true;
         self.left -= 1;
     }
 

@@ -17,12 +17,3 @@ same_value mode one other (Pair' s (more_of-Bracket f x) v (more_of-Bracket b w)
     let parts = split (λ r. get_or (one r t) i None ≡ get_or (other r u) i None) (leaves f) (leaves b) h in
     ap (λ p. joined mode p (value mode one b t i)) (same_value mode one other f t u i parts.0)
     ∙ ap (joined mode (value mode other f u i)) (same_value mode one other b t u i parts.1)
-
--- what holds of each rank of a range holds of those that are kept
-pub each_kept : (P : ℕ → Type 0) (keeps : ℕ → Bool) (first n : ℕ) → ((r : ℕ) → r < first + n → P r) → AllByRecursion P (filter keeps (range_with_len first n))
-each_kept P keeps first zero h = tt
-each_kept P keeps first (suc n) h = go (keeps first) (each_kept P keeps (first + 1) n (λ r l. h r (omega arith)))
-  where
-    go : (b : Bool) → AllByRecursion P (filter keeps (range_with_len (first + 1) n)) → AllByRecursion P (cond b (first ∷ filter keeps (range_with_len (first + 1) n)) (filter keeps (range_with_len (first + 1) n)))
-    go true rest = (h first (omega arith), rest)
-    go false rest = rest

@@ -1,5 +1,5 @@
 -- The images of a scene's ranks, as pieces and as lists of pixels.
-use Rattle.std.proofs.Common.{◌≡◌, ℕ, zero, suc, ◌+◌, ◌*◌, ◌<◌, List, [], ◌∷◌, ◌++◌, map, length, take, get_or, replicate, Some, None, refl, sym, ap, ◌∙◌, arith, add-one, ne_eqb, true, false}
+use Rattle.std.proofs.Common.{◌≡◌, ℕ, zero, suc, ◌+◌, ◌*◌, ◌<◌, List, [], ◌∷◌, ◌++◌, map, length, take, get_or, replicate, Option, Some, None, refl, sym, ap, ◌∙◌, arith, add-one, ne_eqb, true, false}
 use Rattle.std.specs.Prelude.{slice_get, ◌==◌}
 use Rattle.std.specs.List.{range_with_len, AllByRecursion}
 use Rattle.std.proofs.lemmas.List.{length-map}
@@ -14,8 +14,7 @@ use Rattle.icet_model.specs.Run.{Piece}
 use Rattle.icet_raster.proofs.Outside.{blank_outside}
 use Rattle.icet_rank.specs.Machine.{sizes_of, content_at}
 use Rattle.icet_net.specs.Ranks.{AreWholeImages}
-use Rattle.icet_jobs.specs.Nets.{piece_images}
-use Rattle.icet_jobs.specs.Composites.{image_at, images_of, whole_piece, pieces_from, rank_image, rank_images}
+use Rattle.icet_jobs.specs.Composites.{images_of, whole_piece, pieces_from, rank_image, rank_images}
 use Rattle.icet_model.proofs.Lists.{made_more as one_made_more}
 
 -- an entry of a list that is made of a range
@@ -24,13 +23,18 @@ made_at f first zero r d l = absurd (omega arith)
 made_at f first (suc n) zero d l = ap f (let e : first ≡ first + 0 = omega arith in e)
 made_at f first (suc n) (suc r) d l = made_at f (first + 1) n r d (omega arith) ∙ ap f (let e : first + 1 + r ≡ first + suc r = omega arith in e)
 
+-- the full image of a tile, and no pixels where there is no tile
+abbrev pub image_at : Mode → List Drawing → Option AreaTile → List Pixel
+image_at mode shapes None = []
+image_at mode shapes (Some tile) = full_image mode shapes tile.area
+
 -- the pixels of a tile's piece
 content_is : (first : ℕ) (mode : Mode) (shapes : List Drawing) (tiles : List AreaTile) (t : ℕ) → content_at (pieces_from first mode shapes tiles) t ≡ image_at mode shapes (slice_get tiles t)
 content_is first mode shapes [] t = refl
 content_is first mode shapes (tile ∷ tiles) zero = refl
 content_is first mode shapes (tile ∷ tiles) (suc t) = content_is (suc first) mode shapes tiles t
 
-pub same_image : (scene : SceneView) (r t : ℕ) → r < scene.ranks → piece_images (rank_images scene) r t ≡ images_of scene r t
+pub same_image : (scene : SceneView) (r t : ℕ) → r < scene.ranks → images_of scene r t ≡ image_at scene.mode (shapes_of scene.shapes r) (slice_get scene.tiles t)
 same_image scene r t l =
     ap (λ image. content_at image t) (made_at (rank_image scene) 0 scene.ranks r (get_or (rank_images scene) 0 []) l ∙ ap (rank_image scene) (let e : 0 + r ≡ r = omega arith in e))
     ∙ content_is 0 scene.mode (shapes_of scene.shapes r) scene.tiles t

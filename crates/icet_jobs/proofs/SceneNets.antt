@@ -1,5 +1,5 @@
 -- A scene's order, contributors and images are what a plan and a net are opened with.
-use Rattle.std.proofs.Common.{◌≡◌, ◌≢◌, ℕ, zero, suc, ◌+◌, ◌*◌, ◌<◌, ◌≤◌, List, [], ◌∷◌, map, get_or, Option, None, refl, sym, ap, ◌∙◌, subst, arith}
+use Rattle.std.proofs.Common.{◌≡◌, ◌≢◌, ℕ, zero, suc, ◌+◌, ◌*◌, ◌<◌, ◌≤◌, List, [], ◌∷◌, map, length, get_or, Option, None, refl, sym, ap, ◌∙◌, subst, arith}
 use Rattle.std.specs.Prelude.{All, AllPairs}
 use Rattle.std.specs.List.{range_with_len, sum_by, AllByRecursion}
 use Rattle.std.proofs.lemmas.List.{length-map}
@@ -14,33 +14,18 @@ use Rattle.icet_model.specs.Plan.{PlanView}
 use Rattle.icet_model.specs.Tiles.{TileView as AreaTile}
 use Rattle.icet_scene_model.specs.Scene.{SceneView}
 use Rattle.icet_tiles.specs.Contributors.{HasEachOnce}
-use Rattle.icet_multi.specs.declared.settings.Strategy.{Strategy}
-use Rattle.icet_multi.specs.declared.settings.Strategy.TheVariants.{Direct}
+use Rattle.icet_multi.specs.declared.settings.Settings.{Settings}
 use Rattle.icet_multi.specs.Direct.{TileView}
-use Rattle.icet_multi.specs.Strategies.{IsPlanOf, KeepsOrder, tile_ranks}
+use Rattle.icet_multi.specs.Strategies.{KeepsOrder, tile_ranks}
 use Rattle.icet_net.specs.Opening.{CanOpen}
 use Rattle.icet_net.specs.Ranks.{AreWholeImages}
 use Rattle.icet_scene.specs.Scenes.{IsLawfulScene}
 use Rattle.icet_scene_model.specs.Jobs.{boxes_of}
-use Rattle.icet_jobs.specs.Composites.{scene_tiles, rank_image, rank_images}
+use Rattle.icet_jobs.specs.Composites.{IsPlanFor, rank_image, rank_images}
 use Rattle.icet_jobs.proofs.SceneImages.{whole_images}
+use Rattle.icet_jobs.proofs.ScenePictures.{IsOrdered}
 use Rattle.icet_model.proofs.Lists.{no_pairs}
-
--- the numbers from first on, each once
-all_in : (P : ℕ → Type 0) (first n : ℕ) → ((r : ℕ) → first ≤ r → r < first + n → P r) → All P (range_with_len first n)
-all_in P first zero h = All-nil P
-all_in P first (suc n) h = All-cons P first (range_with_len (first + 1) n) (h first (omega arith) (omega arith)) (all_in P (first + 1) n (λ r a b. h r (omega (arith, a)) (omega (arith, b))))
-
-all_differ : (first n : ℕ) → AllPairs (λ one other. one ≢ other) (range_with_len first n)
-all_differ first zero = no_pairs (λ one other. one ≢ other)
-all_differ first (suc n) = AllPairs-cons (λ one other. one ≢ other) first (range_with_len (first + 1) n) (all_in (λ r. first ≢ r) (first + 1) n (λ r a b e. absurd (omega (arith, a, e)))) (all_differ (first + 1) n)
-
-pub each_once : (n : ℕ) (order : List ℕ) → order ≡ range_with_len 0 n → HasEachOnce n order
-each_once n order e = subst (HasEachOnce n) (sym e) (record {
-  count = length-range_with_len 0 n;
-  below = all_in (λ r. r < n) 0 n (λ r a b. omega (arith, b));
-  distinct = all_differ 0 n;
-})
+use Rattle.icet_model.specs.declared.limits.TheConstants.{MAX_RANK_PIXELS}
 
 -- contributors keep the order
 pub keep_order : (boxes : List (Option Rect)) (order : List ℕ) (tiles : List AreaTile) → All (KeepsOrder order) (map (λ tile. contributors boxes order tile.area) tiles)
@@ -66,13 +51,17 @@ at_least_once : (n s : ℕ) → 1 ≤ n → s ≤ n * s
 at_least_once zero s l = absurd (omega arith)
 at_least_once (suc n) s l = let h = suc-mul n s in omega (arith, h)
 
-pub can_open : (strategy : Strategy) (scene : SceneView) (plan : PlanView) → IsLawfulScene scene → IsPlanOf strategy scene.ranks (scene_tiles scene) plan → CanOpen plan scene.tiles (rank_images scene)
-can_open Direct scene plan lawful is =
+pub can_open : (settings : Settings) (scene : SceneView) (plan : PlanView) → IsLawfulScene scene → length scene.order ≡ scene.ranks → IsPlanFor settings scene plan → CanOpen plan scene.tiles (rank_images scene)
+can_open settings scene plan lawful many is =
     let sizes = sym (is.sizes ∙ sizes_are (λ tile. contributors (boxes_of scene) scene.order tile.area) scene.tiles) in
     record {
       sizes = sizes;
       displays = sym (is.displays ∙ displays_are (λ tile. contributors (boxes_of scene) scene.order tile.area) scene.tiles);
-      small = subst (AllByRecursion (λ n. n ≤ 67108864)) sizes (each_small scene.tiles 67108864 (let l = at_least_once scene.ranks (sum_by pixels_of scene.tiles) lawful.some in omega (arith, l, lawful.small)));
-      count = length-map (range_with_len 0 scene.ranks) (rank_image scene) ∙ length-range_with_len 0 scene.ranks ∙ sym is.programs;
+      small = subst (AllByRecursion (λ n. n ≤ MAX_RANK_PIXELS)) sizes (each_small scene.tiles MAX_RANK_PIXELS (let l = at_least_once scene.ranks (sum_by pixels_of scene.tiles) lawful.some in omega (arith, l, lawful.small)));
+      count = length-map (range_with_len 0 scene.ranks) (rank_image scene) ∙ length-range_with_len 0 scene.ranks ∙ sym (is.programs ∙ many);
       whole = subst (λ ns. AllByRecursion (AreWholeImages ns) (rank_images scene)) sizes (whole_images scene);
     }
+
+-- a scene's order
+pub ordered : (scene : SceneView) → IsLawfulScene scene → IsOrdered scene
+ordered scene lawful = record { ascending = lawful.ascending; once = lawful.each }

@@ -1,13 +1,15 @@
 -- The brackets of a strategy's plan show the plain composite.
-use Rattle.std.proofs.Common.{◌≡◌, ℕ, zero, suc, ◌+◌, ◌-◌, ◌*◌, ◌<◌, ◌≤◌, Bool, true, false, cond, List, [], ◌∷◌, map, length, get_or, replicate, filter, Some, None, refl, sym, ap, ◌∙◌, subst, arith}
-use Rattle.std.specs.Prelude.{slice_get}
-use Rattle.std.specs.List.{AllByRecursion, range_with_len}
+use Rattle.std.proofs.Common.{◌≡◌, ℕ, zero, suc, ◌+◌, ◌-◌, ◌*◌, ◌<◌, ◌≤◌, Bool, true, false, cond, List, [], ◌∷◌, map, length, get_or, replicate, filter, Some, None, refl, sym, ap, ◌∙◌, subst, arith, inl, inr}
+use Rattle.std.specs.Prelude.{All, slice_get, ◌⊎◌}
+use Rattle.std.specs.List.{AllByRecursion, range_with_len, zip}
 use Rattle.std.proofs.lemmas.List.{length-map}
+use Rattle.std.proofs.lemmas.List.Elements.{All-filter}
 use mathlib.Core.Path.{fun_ext}
 use Rattle.icet_model.specs.declared.names.Mode.{Mode}
 use Rattle.icet_model.specs.declared.names.Mode.TheVariants.{Depth, Blend, WideBlend}
+use Rattle.icet_model.specs.declared.bracket.Bracket.{Bracket}
 use Rattle.icet_model.specs.declared.bracket.Bracket.TheVariants.{Empty}
-use Rattle.icet_model.specs.Pixel.{Pixel}
+use Rattle.icet_model.specs.Pixel.{DenseView, Pixel}
 use Rattle.icet_scene_model.specs.Raster.{full_image}
 use Rattle.icet_scene_model.specs.Boxes.{box, reaches_into, contributors}
 use Rattle.icet_model.specs.Bracket.{Images, leaves, value}
@@ -15,21 +17,22 @@ use Rattle.icet_model.specs.Composite.{nearer, nearest, column, images_by_rank, 
 use Rattle.icet_model.specs.Plan.{PlanView, values}
 use Rattle.icet_model.specs.Tiles.{TileView as AreaTile}
 use Rattle.icet_scene_model.specs.Scene.{SceneView}
-use Rattle.icet_scene_model.specs.Jobs.{shapes_of, boxes_of, bracket_of, full_images, plain_picture}
+use Rattle.icet_scene_model.specs.Jobs.{shapes_of, boxes_of, full_images, plain_picture}
+use Rattle.icet_model.proofs.Lists.{all_in_turn}
 use Rattle.icet_model.proofs.NearestLeaf.{value_nearest}
 use Rattle.icet_raster.proofs.Outside.{blank_outside}
-use Rattle.icet_multi.specs.declared.settings.Strategy.{Strategy}
-use Rattle.icet_multi.specs.declared.settings.Strategy.TheVariants.{Direct}
-use Rattle.icet_multi.specs.Direct.{TileView, tile_bracket}
-use Rattle.icet_multi.specs.Strategies.{IsPlanOf, tile_ranks}
-use Rattle.icet_multi.proofs.Absent.{tile_leaves}
+use Rattle.icet_multi.specs.declared.settings.Settings.{Settings}
+use Rattle.icet_multi.specs.Direct.{TileView}
+use Rattle.icet_multi.specs.Rules.{JoinsInOrder, rule_of}
+use Rattle.icet_multi.specs.Strategies.{tile_ranks}
+use Rattle.icet_multi.proofs.BracketLeaves.{rules_join_in_order}
+use Rattle.icet_tiles.specs.Contributors.{HasEachOnce}
 use Rattle.icet_net.specs.Net.{HullView}
 use Rattle.icet_net.specs.Opening.{sides_of}
 use Rattle.icet_net.specs.Closing.{picture_of, pictures_of}
-use Rattle.icet_jobs.specs.Nets.{piece_images}
-use Rattle.icet_jobs.specs.Composites.{scene_tiles, image_at, rank_images, plain_pictures}
-use Rattle.icet_jobs.proofs.SameValues.{same_value, each_kept}
-use Rattle.icet_jobs.proofs.SceneImages.{made_at, same_image}
+use Rattle.icet_jobs.specs.Composites.{IsPlanFor, brackets_of, scene_tiles, images_of, plain_pictures}
+use Rattle.icet_jobs.proofs.SameValues.{same_value}
+use Rattle.icet_jobs.proofs.SceneImages.{image_at, made_at, same_image}
 
 front : (x y : Pixel) (xs ys : List Pixel) → x ≡ y → nearest xs ≡ nearest ys → nearest (x ∷ xs) ≡ nearest (y ∷ ys)
 front x y xs ys e h = ap (λ p. nearest (p ∷ xs)) e ∙ go y
@@ -83,71 +86,118 @@ tile_at f [] k tile e = absurd cc
 tile_at f (x ∷ tiles) zero tile e = ap (λ t. Some (tile_with t (f t))) (let h : x ≡ tile = cc in h)
 tile_at f (x ∷ tiles) (suc k) tile e = tile_at f tiles k tile e
 
-module _ (scene : SceneView) (ascending : scene.order ≡ range_with_len 0 scene.ranks) (t : ℕ) (tile : AreaTile) (at : slice_get scene.tiles t ≡ Some tile) where
-  abbrev images : Images
-  images = piece_images (rank_images scene)
+all_pass : (xs : List ℕ) → filter (λ x. true) xs ≡ xs
+all_pass [] = refl
+all_pass (x ∷ xs) = ap (λ ys. x ∷ ys) (all_pass xs)
 
-  abbrev keeps : ℕ → Bool
-  keeps r = reaches_into (get_or (boxes_of scene) r None) tile.area
+-- two lists of one length, side by side
+both_at : {X Y : Type 0} (xs : List X) (ys : List Y) (k : ℕ) (x : X × Y) → slice_get (zip xs ys) k ≡ Some x → (slice_get xs k ≡ Some x.0) × (slice_get ys k ≡ Some x.1)
+both_at [] ys k x e = absurd cc
+both_at (a ∷ xs) [] k x e = absurd cc
+both_at (a ∷ xs) (b ∷ ys) zero x e = let h : (a, b) ≡ x = cc in (ap (λ p. Some p.0) h, ap (λ p. Some p.1) h)
+both_at (a ∷ xs) (b ∷ ys) (suc k) x e = both_at xs ys k x e
+
+zip_count : {X Y : Type 0} (xs : List X) (ys : List Y) → length ys ≡ length xs → length (zip xs ys) ≡ length xs
+zip_count [] ys e = refl
+zip_count (x ∷ xs) [] e = absurd (omega (arith, e))
+zip_count (x ∷ xs) (y ∷ ys) e = ap suc (zip_count xs ys (omega (arith, e)))
+
+got : {X : Type 0} (xs : List X) (k : ℕ) (x d : X) → slice_get xs k ≡ Some x → get_or xs k d ≡ x
+got [] k x d e = absurd cc
+got (y ∷ xs) zero x d e = cc
+got (y ∷ xs) (suc k) x d e = got xs k x d e
+
+-- by depth the order is that of the ranks, and each rank stands in it once
+pub record IsOrdered (scene : SceneView) : Type 0 where
+  pub ascending : scene.mode ≡ Depth → scene.order ≡ range_with_len 0 scene.ranks
+  pub once : HasEachOnce scene.ranks scene.order
+
+module _ (scene : SceneView) (ordered : IsOrdered scene) (t : ℕ) (tile : AreaTile) (at : slice_get scene.tiles t ≡ Some tile) where
+  abbrev images : Images
+  images = images_of scene
 
   abbrev ranks_of_tile : List ℕ
   ranks_of_tile = contributors (boxes_of scene) scene.order tile.area
 
-  full : (r : ℕ) → r < scene.ranks → images r t ≡ full_image scene.mode (shapes_of scene.shapes r) tile.area
-  full r l = same_image scene r t l ∙ ap (image_at scene.mode (shapes_of scene.shapes r)) at
+  -- the leaves of a bracket are the order, without ranks that draw nothing in the tile
+  record JoinsKept (bracket : Bracket) : Type 0 where
+    keeps : ℕ → Bool
+    is : leaves bracket ≡ filter keeps scene.order
+    blank : (r : ℕ) → r < scene.ranks → keeps r ≡ false → full_image scene.mode (shapes_of scene.shapes r) tile.area ≡ blanks (tile.area.w * tile.area.h)
 
-  out_of_box : (r : ℕ) → r < scene.ranks → keeps r ≡ false → full_image scene.mode (shapes_of scene.shapes r) tile.area ≡ blanks (tile.area.w * tile.area.h)
+  out_of_box : (r : ℕ) → r < scene.ranks → reaches_into (get_or (boxes_of scene) r None) tile.area ≡ false → full_image scene.mode (shapes_of scene.shapes r) tile.area ≡ blanks (tile.area.w * tile.area.h)
   out_of_box r l e =
       blank_outside scene.mode (shapes_of scene.shapes r) tile.area
       (ap (λ b. reaches_into b tile.area) (sym (made_at (λ q. box (shapes_of scene.shapes q)) 0 scene.ranks r None l ∙ ap (λ q. box (shapes_of scene.shapes q)) (let z : 0 + r ≡ r = omega arith in z))) ∙ e)
 
-  pixel_is : (i : ℕ) → value Depth images (tile_bracket (tile_with tile ranks_of_tile)) t i ≡ nearest (column (full_images scene tile) i)
-  pixel_is i =
-      value_nearest images (tile_bracket (tile_with tile ranks_of_tile)) t i
-      ∙ ap (λ rs. nearest (map (λ r. get_or (images r t) i None) rs)) (tile_leaves (tile_with tile ranks_of_tile))
-      ∙ ap (λ o. nearest (map (λ r. get_or (images r t) i None) (filter keeps o))) ascending
-      ∙ nearest_of_all keeps (λ r. get_or (images r t) i None) (λ r. get_or (full_image scene.mode (shapes_of scene.shapes r) tile.area) i None) scene.ranks
-      (λ r l. ap (λ image. get_or image i None) (full r l))
-      (λ r l e. ap (λ image. get_or image i None) (out_of_box r l e) ∙ no_pixel (tile.area.w * tile.area.h) i)
-      ∙ ap nearest (fuse (λ r. full_image scene.mode (shapes_of scene.shapes r) tile.area) (λ image. get_or image i None) (range_with_len 0 scene.ranks))
+  joins_kept : (bracket : Bracket) → (leaves bracket ≡ scene.order) ⊎ (leaves bracket ≡ ranks_of_tile) → JoinsKept bracket
+  joins_kept bracket (inl e) = record { keeps = λ r. true; is = e ∙ sym (all_pass scene.order); blank = λ r l h. absurd (cc) }
+  joins_kept bracket (inr e) = record { keeps = λ r. reaches_into (get_or (boxes_of scene) r None) tile.area; is = e; blank = out_of_box }
 
-  -- the images of the net and the full images agree on the bracket's leaves
-  agrees : (i : ℕ) → AllByRecursion (λ r. get_or (images r t) i None ≡ get_or (images_by_rank (full_images scene tile) r 0) i None) (leaves (bracket_of scene tile))
-  agrees i =
-      let P : ℕ → Type 0 = λ r. get_or (images r t) i None ≡ get_or (images_by_rank (full_images scene tile) r 0) i None in
-      let here : (r : ℕ) → r < 0 + scene.ranks → P r = λ r l.
-      (let m : r < scene.ranks = omega (arith, l) in
-      ap (λ image. get_or image i None) (full r m ∙ ap (λ q. full_image scene.mode (shapes_of scene.shapes q) tile.area) (let z : r ≡ 0 + r = omega arith in z) ∙ sym (made_at (λ q. full_image scene.mode (shapes_of scene.shapes q) tile.area) 0 scene.ranks r [] m))) in
-      subst (AllByRecursion P) (sym (tile_leaves (tile_with tile ranks_of_tile))) (subst (λ o. AllByRecursion P (filter keeps o)) (sym ascending) (each_kept P keeps 0 scene.ranks here))
+  full : (r : ℕ) → r < scene.ranks → images r t ≡ full_image scene.mode (shapes_of scene.shapes r) tile.area
+  full r l = same_image scene r t l ∙ ap (image_at scene.mode (shapes_of scene.shapes r)) at
 
-  plain_is : (mode : Mode) (i : ℕ) → value mode images (bracket_of scene tile) t i ≡ plain_pixel mode (bracket_of scene tile) (full_images scene tile) i
-  plain_is Depth i = pixel_is i
-  plain_is Blend i = same_value Blend images (images_by_rank (full_images scene tile)) (bracket_of scene tile) t 0 i (agrees i)
-  plain_is WideBlend i = same_value WideBlend images (images_by_rank (full_images scene tile)) (bracket_of scene tile) t 0 i (agrees i)
+  module _ (bracket : Bracket) (kept : JoinsKept bracket) where
+    pixel_is : scene.order ≡ range_with_len 0 scene.ranks → (i : ℕ) → value Depth images bracket t i ≡ nearest (column (full_images scene tile) i)
+    pixel_is ascending i =
+        value_nearest images bracket t i
+        ∙ ap (λ rs. nearest (map (λ r. get_or (images r t) i None) rs)) kept.is
+        ∙ ap (λ o. nearest (map (λ r. get_or (images r t) i None) (filter kept.keeps o))) ascending
+        ∙ nearest_of_all kept.keeps (λ r. get_or (images r t) i None) (λ r. get_or (full_image scene.mode (shapes_of scene.shapes r) tile.area) i None) scene.ranks
+        (λ r l. ap (λ image. get_or image i None) (full r l))
+        (λ r l e. ap (λ image. get_or image i None) (kept.blank r l e) ∙ no_pixel (tile.area.w * tile.area.h) i)
+        ∙ ap nearest (fuse (λ r. full_image scene.mode (shapes_of scene.shapes r) tile.area) (λ image. get_or image i None) (range_with_len 0 scene.ranks))
 
-  pixels_are : (mode : Mode) → values mode images t 0 (tile.area.w * tile.area.h) (bracket_of scene tile) ≡ plain_composite mode (bracket_of scene tile) (full_images scene tile) (tile.area.w * tile.area.h)
-  pixels_are mode =
-      ap (λ n. map (λ i. value mode images (bracket_of scene tile) t i) (range_with_len 0 n)) (let z : tile.area.w * tile.area.h - 0 ≡ tile.area.w * tile.area.h = omega arith in z)
-      ∙ ap (λ f. map f (range_with_len 0 (tile.area.w * tile.area.h))) (fun_ext (plain_is mode))
+    -- the images of the net and the full images agree on the bracket's leaves
+    agrees : (i : ℕ) → AllByRecursion (λ r. get_or (images r t) i None ≡ get_or (images_by_rank (full_images scene tile) r 0) i None) (leaves bracket)
+    agrees i =
+        let P : ℕ → Type 0 = λ r. get_or (images r t) i None ≡ get_or (images_by_rank (full_images scene tile) r 0) i None in
+        let here : (r : ℕ) → r < scene.ranks → P r = λ r m.
+        ap (λ image. get_or image i None) (full r m ∙ ap (λ q. full_image scene.mode (shapes_of scene.shapes q) tile.area) (let z : r ≡ 0 + r = omega arith in z) ∙ sym (made_at (λ q. full_image scene.mode (shapes_of scene.shapes q) tile.area) 0 scene.ranks r [] m)) in
+        let known : All P scene.order = λ k d l. here (get_or scene.order k d) (ordered.once.below k d l) in
+        subst (AllByRecursion P) (sym kept.is) (all_in_turn P (filter kept.keeps scene.order) (All-filter kept.keeps P scene.order known))
+
+    plain_is : (mode : Mode) → scene.mode ≡ mode → (i : ℕ) → value mode images bracket t i ≡ plain_pixel mode bracket (full_images scene tile) i
+    plain_is Depth m i = pixel_is (ordered.ascending m) i
+    plain_is Blend m i = same_value Blend images (images_by_rank (full_images scene tile)) bracket t 0 i (agrees i)
+    plain_is WideBlend m i = same_value WideBlend images (images_by_rank (full_images scene tile)) bracket t 0 i (agrees i)
+
+    pixels_are : values scene.mode images t 0 (tile.area.w * tile.area.h) bracket ≡ plain_composite scene.mode bracket (full_images scene tile) (tile.area.w * tile.area.h)
+    pixels_are =
+        ap (λ n. map (λ i. value scene.mode images bracket t i) (range_with_len 0 n)) (let z : tile.area.w * tile.area.h - 0 ≡ tile.area.w * tile.area.h = omega arith in z)
+        ∙ ap (λ f. map f (range_with_len 0 (tile.area.w * tile.area.h))) (fun_ext (plain_is scene.mode refl))
+
+tile_count : (f : AreaTile → List ℕ) (tiles : List AreaTile) → length (tile_ranks tiles (map f tiles)) ≡ length tiles
+tile_count f [] = refl
+tile_count f (x ∷ tiles) = ap suc (tile_count f tiles)
 
 abbrev hull_of : SceneView → PlanView → ℕ → ℕ → List (ℕ × ℕ) → HullView
 hull_of scene plan cap strands pairs = record { plan = plan; cap = cap; strands = strands; sides = map sides_of scene.tiles; pairs = pairs }
 
+abbrev picture_by : SceneView → AreaTile × Bracket → DenseView
+picture_by scene x = record { w = x.0.area.w; h = x.0.area.h; pixels = plain_picture scene x.0 x.1 }
+
 -- what the close of the plan's net shows
-pub shown : (strategy : Strategy) (scene : SceneView) (plan : PlanView) (cap strands : ℕ) (pairs : List (ℕ × ℕ)) → scene.order ≡ range_with_len 0 scene.ranks → IsPlanOf strategy scene.ranks (scene_tiles scene) plan
-    → pictures_of (record { plan = plan; cap = cap; strands = strands; sides = map sides_of scene.tiles; pairs = pairs }) scene.mode (piece_images (rank_images scene)) ≡ plain_pictures scene
-shown Direct scene plan cap strands pairs ascending is =
-    ap (λ n. map (picture_of (hull_of scene plan cap strands pairs) scene.mode (piece_images (rank_images scene))) (range_with_len 0 n)) (length-map scene.tiles sides_of)
-    ∙ map_places (picture_of (hull_of scene plan cap strands pairs) scene.mode (piece_images (rank_images scene))) (λ tile. record { w = tile.area.w; h = tile.area.h; pixels = plain_picture scene tile }) scene.tiles 0 (λ t tile at. ap (picture_of (hull_of scene plan cap strands pairs) scene.mode (piece_images (rank_images scene))) (let z : 0 + t ≡ t = omega arith in z) ∙ each t tile at)
+pub shown : (settings : Settings) (scene : SceneView) (plan : PlanView) (cap strands : ℕ) (pairs : List (ℕ × ℕ)) → IsOrdered scene → IsPlanFor settings scene plan
+    → pictures_of (record { plan = plan; cap = cap; strands = strands; sides = map sides_of scene.tiles; pairs = pairs }) scene.mode (images_of scene) ≡ plain_pictures settings scene
+shown settings scene plan cap strands pairs ordered is =
+    let joins = rules_join_in_order settings scene.order (scene_tiles scene) in
+    let brackets = brackets_of settings scene in
+    let f : ℕ → DenseView = picture_of (hull_of scene plan cap strands pairs) scene.mode (images_of scene) in
+    let many : length brackets ≡ length scene.tiles = joins.count ∙ tile_count (λ x. contributors (boxes_of scene) scene.order x.area) scene.tiles in
+    ap (λ n. map f (range_with_len 0 n)) (length-map scene.tiles sides_of ∙ sym (zip_count scene.tiles brackets many))
+    ∙ map_places f (picture_by scene) (zip scene.tiles brackets) 0 (λ t x at. ap f (let z : 0 + t ≡ t = omega arith in z) ∙ each t x.0 x.1 (both_at scene.tiles brackets t x at).0 (both_at scene.tiles brackets t x at).1)
   where
-    each : (t : ℕ) (tile : AreaTile) → slice_get scene.tiles t ≡ Some tile → picture_of (hull_of scene plan cap strands pairs) scene.mode (piece_images (rank_images scene)) t ≡ record { w = tile.area.w; h = tile.area.h; pixels = plain_picture scene tile }
-    each t tile at =
+    each : (t : ℕ) (tile : AreaTile) (bracket : Bracket) → slice_get scene.tiles t ≡ Some tile → slice_get (brackets_of settings scene) t ≡ Some bracket → picture_of (hull_of scene plan cap strands pairs) scene.mode (images_of scene) t ≡ picture_by scene (tile, bracket)
+    each t tile bracket at bracket_at =
+        let joins = rules_join_in_order settings scene.order (scene_tiles scene) in
         let ranks = contributors (boxes_of scene) scene.order tile.area in
         let here = tile_at (λ x. contributors (boxes_of scene) scene.order x.area) scene.tiles t tile at in
         let side = map_at sides_of scene.tiles t tile (0, 0) at in
         let size = ap (λ ns. get_or ns t 0) is.sizes ∙ map_at (λ (x : TileView). x.size) (scene_tiles scene) t (tile_with tile ranks) 0 here in
-        let bracket = ap (λ bs. get_or bs t Empty) is.brackets ∙ map_at tile_bracket (scene_tiles scene) t (tile_with tile ranks) Empty here in
-        ap (λ (s : ℕ × ℕ). record { w = s.0; h = s.1; pixels = values scene.mode (piece_images (rank_images scene)) t 0 (get_or plan.tiles.sizes t 0) (get_or plan.brackets t Empty) }) side
-        ∙ ap (λ n. record { w = tile.area.w; h = tile.area.h; pixels = values scene.mode (piece_images (rank_images scene)) t 0 n (get_or plan.brackets t Empty) }) size
-        ∙ ap (λ b. record { w = tile.area.w; h = tile.area.h; pixels = values scene.mode (piece_images (rank_images scene)) t 0 (tile.area.w * tile.area.h) b }) bracket
-        ∙ ap (λ ps. record { w = tile.area.w; h = tile.area.h; pixels = ps }) (pixels_are scene ascending t tile at scene.mode)
+        let shows = ap (λ bs. get_or bs t Empty) is.brackets ∙ got (brackets_of settings scene) t bracket Empty bracket_at in
+        let kept = joins_kept scene ordered t tile at bracket (joins.joined t (tile_with tile ranks) bracket here bracket_at) in
+        ap (λ (s : ℕ × ℕ). record { w = s.0; h = s.1; pixels = values scene.mode (images_of scene) t 0 (get_or plan.tiles.sizes t 0) (get_or plan.brackets t Empty) }) side
+        ∙ ap (λ n. record { w = tile.area.w; h = tile.area.h; pixels = values scene.mode (images_of scene) t 0 n (get_or plan.brackets t Empty) }) size
+        ∙ ap (λ b. record { w = tile.area.w; h = tile.area.h; pixels = values scene.mode (images_of scene) t 0 (tile.area.w * tile.area.h) b }) shows
+        ∙ ap (λ ps. record { w = tile.area.w; h = tile.area.h; pixels = ps }) (pixels_are scene ordered t tile at bracket kept)

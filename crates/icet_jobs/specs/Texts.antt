@@ -1,5 +1,5 @@
 -- The texts of the jobs, and what writing one leaves.
-use Rattle.std.specs.Prelude.{◌≡◌, ℕ, List, Result, Ok, Err}
+use Rattle.std.specs.Prelude.{◌≡◌, ℕ, Bool, List, Result, Ok, Err}
 use Rattle.std.specs.List.{flat_map}
 use Rattle.icet_model.specs.declared.names.Mode.{Mode}
 use Rattle.icet_model.specs.Pixel.{FragmentView, DenseView}
@@ -11,12 +11,12 @@ use Rattle.icet_jobs.specs.declared.replay.JobFault.{JobFault}
 use Rattle.icet_jobs.specs.declared.replay.JobFault.TheVariants.{Write, NoMemory}
 
 -- the picture texts, one behind the other
-abbrev pub pictures_text : Mode → FragmentView → List DenseView → List ℕ
-pictures_text mode background pictures = flat_map (λ picture. picture_text mode background picture.w picture.h picture.pixels) pictures
+abbrev pub pictures_text : Bool → Mode → FragmentView → List DenseView → List ℕ
+pictures_text wide mode background pictures = flat_map (λ picture. picture_text wide mode background picture.w picture.h picture.pixels) pictures
 
 -- the texts of a scene's pictures
 abbrev pub texts_of : SceneView → List DenseView → List ℕ
-texts_of scene pictures = pictures_text scene.mode scene.background pictures
+texts_of scene pictures = pictures_text scene.wide scene.mode scene.background pictures
 
 -- writing a text that takes memory first: where it is wanting, the sink is as it was
 abbrev pub WritesText : {K : Type 0} → (K → SinkView) → K → K → Result (Unit {0}) JobFault → List ℕ → Type 0

@@ -48,8 +48,9 @@ pub fn composite<W: Wires, G: Gate, R: Threads + Sync>(
     requires workers { 1 ≤ way.now.workers }
     requires burst { 1 ≤ way.now.burst }
     requires strands { way.now.strands ≡ 1 }
-    ensures pictures { IfOk result (λ outcome. outcome.pictures ≡ plain_pictures scene.now) }
-    ensures log { OnOk result (W.log wires.new ≡ W.log wires.old ++ composite_traffic way.now.settings.strategy scene.now) }
+    requires split { 2 ≤ way.now.settings.k }
+    ensures pictures { IfOk result (λ outcome. outcome.pictures ≡ plain_pictures way.now.settings scene.now) }
+    ensures log { OnOk result (W.log wires.new ≡ W.log wires.old ++ composite_traffic way.now.settings scene.now) }
     ensures owed { OnOk result (W.owed wires.new ≡ W.owed wires.old) }
     ensures kept { OnErr result (W.log wires.new ≡ W.log wires.old) }
 {

@@ -11,8 +11,12 @@ use icet_sparse::Sparse;
 use std::alloc::Global;
 
 /// Each rank's full image of each tile.
+///
+/// # Errors
+///
+/// `NoMemory`.
 #[tactic(auto, using(crate::proofs::SceneImages::made_more))]
-pub(crate) fn images_of(alloc: Global, scene: &Scene) -> Result<Vec<Image>, NoMemory>
+pub fn images_of(alloc: Global, scene: &Scene) -> Result<Vec<Image>, NoMemory>
     ensures { IfOk result (λ images. images.items ≡ rank_images scene.now) }
 {
     let mut images = Vec::new(alloc);
@@ -54,5 +58,5 @@ fn part_of(
         return Ok(Sparse::blank(alloc, t, 0, count));
     }
     let image = draw(alloc, shapes, mode, area)?;
-    Ok(Sparse::from_pixels(t, 0, count, image.into_pixels()))
+    Ok(Sparse::of(alloc, t, image.as_slice())?)
 }

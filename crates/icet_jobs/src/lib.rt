@@ -2,13 +2,15 @@
 #![tactic(auto)]
 
 pub mod compositing;
-mod imaging;
-mod net;
+pub mod imaging;
+pub mod net;
 pub mod pictures;
 pub mod planning;
 pub mod replay;
 
 pub use compositing::{Outcome, Way, composite};
+pub use imaging::images_of;
+pub use net::run_net;
 pub use pictures::write_pictures;
 pub use planning::plan_of;
 pub use replay::{JobFault, write_replay};

@@ -13,8 +13,13 @@ use icet_tiles::Layout;
 use std::alloc::Global;
 use std::thread::Threads;
 
-/// Opens a net for the plan and these images, drives it to its end, and closes it.
-pub(crate) fn run_net<W: Wires, G: Gate, R: Threads + Sync>(
+/// Opens a net for the plan and these images, drives it to its end, and closes it: the pictures, one per tile.
+/// The wires' log grows by the plan's traffic, and each pair that was opened is closed.
+///
+/// # Errors
+///
+/// `NoMemory`; the wires' log is as before.
+pub fn run_net<W: Wires, G: Gate, R: Threads + Sync>(
     rt: &R,
     alloc: Global,
     plan: Plan,

@@ -24,6 +24,7 @@ pub fn write_pictures<K: Sink>(
     let mut pen = Pen::new(sink);
     put_pictures(
         &mut pen,
+        scene.wide,
         scene.mode,
         outcome.pictures.as_slice(),
         scene.background,
@@ -34,15 +35,16 @@ pub fn write_pictures<K: Sink>(
 /// Puts the text of each picture.
 fn put_pictures<K: Sink>(
     pen: &mut Pen<'_, K>,
+    wide: bool,
     mode: Mode,
     pictures: &[Dense],
     background: Fragment,
 ) -> Result<(), WriteFault>
     requires { pen.old.failed ≡ false }
-    ensures { Puts K.told pen.old pen.new result (pictures_text mode background pictures.now) }
+    ensures { Puts K.told pen.old pen.new result (pictures_text wide mode background pictures.now) }
 {
     for picture in pictures {
-        write_picture(pen, mode, picture, background)?;
+        write_picture(pen, mode, picture, background, wide)?;
     }
     Ok(())
 }

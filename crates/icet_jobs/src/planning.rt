@@ -1,6 +1,5 @@
-ghost use Rattle.std.specs.Prelude.{◌≡◌, IfOk};
-ghost use Rattle.icet_multi.specs.Strategies.{IsPlanOf};
-ghost use Rattle.icet_jobs.specs.Composites.{scene_tiles};
+ghost use Rattle.std.specs.Prelude.{◌≡◌, ◌≤◌, IfOk};
+ghost use Rattle.icet_jobs.specs.Composites.{IsPlanFor};
 ghost use Rattle.icet_scene_model.specs.Jobs.{boxes_of};
 
 use icet_base::{NoMemory, Rank, Rect};
@@ -17,9 +16,10 @@ use std::alloc::Global;
 /// # Errors
 ///
 /// `NoMemory`.
-#[tactic(auto, using(crate::proofs::SceneNets::each_once, crate::proofs::SceneNets::keep_order))]
+#[tactic(auto, using(crate::proofs::SceneNets::keep_order))]
 pub fn plan_of(alloc: Global, scene: &Scene, settings: &Settings) -> Result<Plan, NoMemory>
-    ensures { IfOk result (IsPlanOf settings.now.strategy scene.now.ranks (scene_tiles scene.now)) }
+    requires { 2 ≤ settings.now.k }
+    ensures { IfOk result (IsPlanFor settings.now scene.now) }
 {
     let ranks = scene.ranks();
     let boxes = boxes_of(alloc, scene)?;

@@ -2,6 +2,7 @@
 ghost use Rattle.std.specs.Prelude.{◌≡◌, ◌≤◌, ◌<◌, ◌^◌, [], ◌∷◌, IfOk, length};
 ghost use Rattle.icet_tiles.specs.Contributors.{HasEachOnce};
 ghost use Rattle.icet_multi.specs.Rules.{IsPlanBy, sequential_rule, strategy_of};
+ghost use Rattle.icet_model.specs.declared.limits.TheConstants.{MAX_RANKS};
 
 use icet_base::{NoMemory, Rank};
 use icet_multi::sequential::sequential;
@@ -32,7 +33,7 @@ fn plan_of(
     single: Single,
     k: u32,
 ) -> Result<Plan, NoMemory>
-    requires low { n ≤ 256 }
+    requires low { n ≤ MAX_RANKS }
     requires small { pixels < 2 ^ 31 }
     requires shown { display < n }
     requires split { 2 ≤ k }
@@ -68,7 +69,7 @@ fn messages(plan: &Plan) -> u32 {
 
 // how many messages there are with so many ranks; the last rank shows the tile
 fn count_of(alloc: Global, n: u32, single: Single, k: u32) -> Result<u32, NoMemory>
-    requires low { n ≤ 256 }
+    requires low { n ≤ MAX_RANKS }
     requires some { 0 < n }
     requires split { 2 ≤ k }
 {

@@ -4,6 +4,7 @@ use Rattle.icet_legs.specs.Team.{Team, team_of}
 use Rattle.icet_model.specs.declared.exchange.Kind.{Kind}
 use Rattle.icet_model.specs.declared.exchange.Exchange.{Exchange}
 use Rattle.icet_legs.specs.declared.range.Range.{Range}
+use Rattle.icet_model.specs.declared.limits.TheConstants.{MAX_RANKS}
 
 -- the participants by position, of whom the one at `shows` displays the tile; its number, its pixels, the first round
 pub record TaskView : Type 0 where
@@ -16,7 +17,7 @@ pub record TaskView : Type 0 where
 -- what the type of a task keeps
 pub record IsTask (x : TaskView) : Type 0 where
   pub shown : x.shows < length x.participants
-  pub low : length x.participants ≤ 256
+  pub low : length x.participants ≤ MAX_RANKS
   pub small : x.pixels < 2 ^ 31
   pub early : x.first < 2 ^ 31
 

@@ -1,5 +1,6 @@
 ghost use Rattle.std.specs.Prelude.{◌≡◌, ◌+◌, ◌≤◌, ◌<◌, ◌^◌, get_or, length};
 ghost use Rattle.icet_legs.specs.Task.{IsTask, IsTaskOf, StandsIn, exchange_of};
+ghost use Rattle.icet_model.specs.declared.limits.TheConstants.{MAX_RANKS};
 
 use crate::Range;
 use icet_base::Rank;
@@ -36,7 +37,7 @@ impl<'a> Task<'a> {
         display: Rank,
         first: u32,
     ) -> Task<'a>
-        requires low { length participants.now ≤ 256 }
+        requires low { length participants.now ≤ MAX_RANKS }
         requires display { StandsIn participants.now display }
         requires small { pixels < 2 ^ 31 }
         requires early { first < 2 ^ 31 }
@@ -93,7 +94,7 @@ impl<'a> Task<'a> {
 
 // the position of a rank of the list
 fn position_of(list: &[Rank], rank: Rank) -> u32
-    requires low { length list.now ≤ 256 }
+    requires low { length list.now ≤ MAX_RANKS }
     requires stands { StandsIn list.now rank }
     ensures within { result < length list.now }
     ensures is { get_or list.now result 0 ≡ rank }

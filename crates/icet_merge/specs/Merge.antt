@@ -1,5 +1,5 @@
 -- Lists of pixels joined place by place.
-use Rattle.std.specs.Prelude.{List, [], ◌∷◌, map}
+use Rattle.std.specs.Prelude.{List, map}
 use Rattle.std.specs.List.{zip}
 use Rattle.icet_model.specs.declared.names.Mode.{Mode}
 use Rattle.icet_model.specs.Pixel.{Pixel, joined}
@@ -7,9 +7,3 @@ use Rattle.icet_model.specs.Pixel.{Pixel, joined}
 -- the pixels of two lists joined as far as both go
 abbrev pub zip_joined : Mode → List Pixel → List Pixel → List Pixel
 zip_joined mode front back = map (λ p. joined mode p.0 p.1) (zip front back)
-
--- the pixels of two lists joined, and those of the longer one behind the end of the other
-abbrev pub list_joined : Mode → List Pixel → List Pixel → List Pixel
-list_joined mode [] back = back
-list_joined mode (f ∷ front) [] = f ∷ front
-list_joined mode (f ∷ front) (b ∷ back) = joined mode f b ∷ list_joined mode front back

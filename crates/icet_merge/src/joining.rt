@@ -1,42 +1,71 @@
-ghost use Rattle.std.specs.Prelude.{◌≡◌, ℕ, List, ◌+◌, ◌-◌, ◌<◌, ◌≤◌, ◌++◌, min, max, IfOk, OnOk, length, map};
-ghost use Rattle.std.specs.List.{zip};
-ghost use Rattle.icet_model.specs.Pixel.{joined};
-ghost use Rattle.icet_merge.specs.Merge.{zip_joined, list_joined};
+ghost use Rattle.std.specs.Prelude.{◌≡◌, ℕ, List, ◌+◌, ◌-◌, ◌<◌, ◌≤◌, ◌^◌, ◌++◌, IfOk, OnOk, Some, length, map, take, drop};
+ghost use Rattle.icet_merge.specs.Merge.{zip_joined};
 
 use icet_base::{Mode, NoMemory};
-use icet_pixel::{Pixel, join};
-use icet_sparse::Sparse;
+use icet_pixel::{Fragment, join};
+use icet_sparse::{Sparse, Strip, Walk};
 use std::alloc::Global;
 
-/// The piece whose pixel at each position is that of `front` joined in front of that of `back`.
-/// Condition: both have the same tile, `lo` and `hi`.
+/// The piece whose pixel at each position is that of `front` joined in front of that of `back`. It goes
+/// run by run: where one of them is blank, the other's run is taken over as a whole. Condition: both
+/// have the same tile, `lo` and `hi`.
 pub fn merge(alloc: Global, mode: Mode, front: &Sparse, back: &Sparse) -> Result<Sparse, NoMemory>
     requires tile { front.now.tile ≡ back.now.tile }
     requires lo { front.now.lo ≡ back.now.lo }
     requires hi { front.now.hi ≡ back.now.hi }
-    ensures { IfOk result (λ s. s ≡ record { tile = front.now.tile; lo = front.now.lo; hi = front.now.hi; content = map (λ p. joined mode p.0 p.1) (zip front.now.content back.now.content) }) }
+    ensures { IfOk result (λ s. s ≡ record { tile = front.now.tile; lo = front.now.lo; hi = front.now.hi; content = zip_joined mode front.now.content back.now.content }) }
 {
-    let pixels = join_lists(alloc, mode, front.pixels(), back.pixels())?;
-    Ok(Sparse::from_pixels(front.tile(), front.lo(), front.hi(), pixels))
+    let mut pixels = Strip::new(alloc);
+    let mut above = front.walk();
+    let mut below = back.walk();
+    let mut left = front.hi() - front.lo();
+    'merging: while left > 0 {
+        let stretch = above.next(left);
+        pixels.append(&mut below, stretch.blank)?;
+        join_onto(&mut pixels, mode, stretch.drawn, &mut below)?;
+        left -= stretch.len();
+    }
+    Ok(Sparse::from_strip(front.tile(), front.lo(), front.hi(), pixels))
 }
 
-/// The pixels of both lists joined, and those of the longer one behind the end of the other.
-#[tactic(auto, using(crate::proofs::Joins::joined_more, crate::proofs::Joins::joined_parts))]
-fn join_lists(
-    alloc: Global,
+/// Puts drawn pixels at the end, joined in front of the next ones of a walk, and walks over these.
+/// Condition: so many are to come.
+fn join_onto(
+    pixels: &mut Strip,
     mode: Mode,
-    front: &[Pixel],
-    back: &[Pixel],
-) -> Result<Vec<Pixel>, NoMemory>
-    ensures value { IfOk result (λ v. v.items ≡ list_joined mode front.now back.now) }
-    ensures size { IfOk result (λ v. length v.items ≡ max (length front.now) (length back.now)) }
+    front: &[Fragment],
+    back: &mut Walk,
+) -> Result<(), NoMemory>
+    requires room { length pixels.old + length front.now < 2 ^ 32 }
+    requires left { length front.now ≤ length back.old }
+    ensures grown { OnOk result (pixels.new ≡ pixels.old ++ zip_joined mode (map Some front.now) (take (length front.now) back.old)) }
+    ensures rest { OnOk result (back.new ≡ drop (length front.now) back.old) }
 {
-    let common = front.len().min(back.len());
-    let mut pixels = Vec::with_capacity(alloc, front.len().max(back.len()))?;
-    for i in 0..common {
-        pixels.push(join(mode, front[i], back[i]))?;
+    let mut rest = front;
+    'joining: while !rest.is_empty() {
+        let stretch = back.next(rest.len() as u32);
+        let (alone, behind) = rest.split_at(stretch.blank as usize);
+        let (both, later) = behind.split_at(stretch.drawn.len());
+        pixels.push_all(alone)?;
+        join_drawn(pixels, mode, both, stretch.drawn)?;
+        rest = later;
     }
-    pixels.extend_from_slice(&front[common..])?;
-    pixels.extend_from_slice(&back[common..])?;
-    Ok(pixels)
+    Ok(())
+}
+
+/// Puts drawn pixels at the end, joined in front of as many others.
+fn join_drawn(
+    pixels: &mut Strip,
+    mode: Mode,
+    front: &[Fragment],
+    back: &[Fragment],
+) -> Result<(), NoMemory>
+    requires room { length pixels.old + length front.now < 2 ^ 32 }
+    requires size { length front.now ≡ length back.now }
+    ensures { OnOk result (pixels.new ≡ pixels.old ++ zip_joined mode (map Some front.now) (map Some back.now)) }
+{
+    for i in 0..front.len() {
+        pixels.push_pixel(join(mode, Some(front[i]), Some(back[i])))?;
+    }
+    Ok(())
 }

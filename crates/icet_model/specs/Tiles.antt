@@ -39,9 +39,12 @@ pub record IsTileArea (rect : Rect) : Type 0 where
   pub y : IsPlace rect.y
   pub display : IsOnDisplay (area_of rect)
 
--- at least one tile and at most so many, each on the display, with display ranks that differ
-pub record IsLayout (tiles : List TileView) : Type 0 where
+-- at least one tile and at most so many, each where a tile may lie, with display ranks that differ
+pub record IsLayoutOf {T : Type 0} (IsInside : T → Type 0) (display_of : T → ℕ) (tiles : List T) : Type 0 where
   pub some : 1 ≤ length tiles
   pub few : length tiles ≤ MAX_TILES
-  pub inside : All (λ tile. IsOnDisplay tile.area) tiles
-  pub distinct : AllPairs (λ one other. one.display ≢ other.display) tiles
+  pub inside : All IsInside tiles
+  pub distinct : AllPairs (λ one other. display_of one ≢ display_of other) tiles
+
+abbrev pub IsLayout : List TileView → Type 0
+IsLayout tiles = IsLayoutOf (λ tile. IsOnDisplay tile.area) (λ tile. tile.display) tiles

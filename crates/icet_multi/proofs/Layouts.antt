@@ -1,12 +1,15 @@
 -- The tiles of a layout with their contributors are tiles as the strategies want them.
-use Rattle.std.proofs.Common.{◌≡◌, ◌≢◌, ℕ, zero, suc, ◌+◌, ◌*◌, ◌<◌, ◌≤◌, List, [], ◌∷◌, ◌++◌, length, take, refl, sym, ap, subst, arith, add-one}
+use Rattle.std.proofs.Common.{◌≡◌, ◌≢◌, ℕ, zero, suc, ◌+◌, ◌*◌, ◌^◌, ◌<◌, ◌≤◌, List, [], ◌∷◌, ◌++◌, length, take, refl, sym, ap, subst, arith, add-one}
 use Rattle.std.specs.Prelude.{All, AllPairs}
 use Rattle.std.specs.List.{AllByRecursion}
+use Rattle.std.proofs.lemmas.Nat.{mul-le}
 use Rattle.std.proofs.lemmas.List.Elements.{All-head, All-tail, All-nil, All-cons, All-filter}
 use Rattle.std.proofs.lemmas.List.Kept.{AllPairs-filter, AllPairs-cons}
-use Rattle.icet_model.specs.Tiles.{TileView as AreaTile, IsLayout}
+use Rattle.icet_model.specs.Tiles.{TileView as AreaTile, IsOnDisplay, IsLayout}
+use Rattle.icet_model.specs.declared.limits.TheConstants.{MAX_SIDE, MAX_TILES}
 use Rattle.icet_tiles.specs.Contributors.{HasEachOnce}
 use Rattle.icet_multi.specs.Direct.{TileView, IsTile, AreTiles}
+use Rattle.icet_multi.specs.Sequential.{IsShown}
 use Rattle.icet_multi.specs.Strategies.{IsTileAt, KeepsOrder, tile_ranks}
 use Rattle.icet_model.proofs.Lists.{no_pairs, all_in_turn}
 
@@ -58,8 +61,19 @@ displays_differ (tile ∷ layout) (list ∷ who) h =
     (all_display (λ d. tile.display ≢ d) layout who (λ i d l. h 0 (suc i) d (omega arith) (omega arith)))
     (displays_differ layout who (λ i j d l m. h (suc i) (suc j) d (omega arith) (omega arith)))
 
-pub few_tiles : (layout : List AreaTile) (who : List (List ℕ)) → length who ≡ length layout → IsLayout layout → length (tile_ranks layout who) ≤ 64
+pub few_tiles : (layout : List AreaTile) (who : List (List ℕ)) → length who ≡ length layout → IsLayout layout → length (tile_ranks layout who) ≤ MAX_TILES
 few_tiles layout who e l = omega (arith, tile_count layout who e, l.few)
 
 pub are_tiles : (ranks : ℕ) (order : List ℕ) (layout : List AreaTile) (who : List (List ℕ)) → HasEachOnce ranks order → All (λ tile. tile.display < ranks) layout → All (KeepsOrder order) who → IsLayout layout → AreTiles ranks (tile_ranks layout who)
 are_tiles ranks order layout who once shown kept l = record { each = tiles_are ranks order once layout who shown kept; displays = displays_differ layout who l.distinct }
+
+-- a tile on the display has fewer than 2^31 pixels
+pub are_shown : (ranks : ℕ) (layout : List AreaTile) (who : List (List ℕ)) → All (λ tile. tile.display < ranks) layout → All (λ tile. IsOnDisplay tile.area) layout → AllByRecursion (IsShown ranks) (tile_ranks layout who)
+are_shown ranks [] who shown inside = tt
+are_shown ranks (tile ∷ layout) [] shown inside = tt
+are_shown ranks (tile ∷ layout) (list ∷ who) shown inside =
+    let on = All-head (λ t. IsOnDisplay t.area) tile layout inside in
+    let pixels = mul-le tile.area.w tile.area.h MAX_SIDE MAX_SIDE (let r = on.right in omega (arith, r)) (let b = on.bottom in omega (arith, b)) in (
+      record { display = All-head (λ t. t.display < ranks) tile layout shown; small = omega (arith, pixels) },
+      are_shown ranks layout who (All-tail (λ t. t.display < ranks) tile layout shown) (All-tail (λ t. IsOnDisplay t.area) tile layout inside),
+    )

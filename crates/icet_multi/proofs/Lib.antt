@@ -1,4 +1,5 @@
 pub mod Absent
+pub mod BracketLeaves
 pub mod ByTile
 pub mod DirectSteps
 pub mod Distinct

@@ -1,8 +1,9 @@
 -- A strategy as a value: what it says of the plan for a list of tiles and the ranks in their order.
-use Rattle.std.specs.Prelude.{◌≡◌, ℕ, ◌*◌, ◌<◌, List, [], map, length, get_or}
+use Rattle.std.specs.Prelude.{◌≡◌, ℕ, ◌*◌, ◌<◌, ◌⊎◌, List, [], map, length, get_or, slice_get, Some}
 use Rattle.icet_model.specs.declared.bracket.Bracket.{Bracket}
 use Rattle.icet_model.specs.declared.bracket.Bracket.TheVariants.{Leaf}
 use Rattle.icet_model.specs.declared.exchange.Exchange.{Exchange}
+use Rattle.icet_model.specs.Bracket.{leaves}
 use Rattle.icet_model.specs.Exchange.{exchanges, of_rank}
 use Rattle.icet_model.specs.Flow.{Messages}
 use Rattle.icet_model.specs.Plan.{PlanView, bracket_flow, plan_exchanges}
@@ -12,6 +13,9 @@ use Rattle.icet_legs.specs.TileStrategy.{TileStrategy, messages_of, ops_of}
 use Rattle.icet_tree.specs.Tree.{tree_strategy}
 use Rattle.icet_bswap.specs.Bswap.{bswap_strategy}
 use Rattle.icet_radixk.specs.Radixk.{radix_strategy}
+use Rattle.icet_multi.specs.declared.settings.Settings.{Settings}
+use Rattle.icet_multi.specs.declared.settings.Strategy.{Strategy}
+use Rattle.icet_multi.specs.declared.settings.Strategy.TheVariants.{Sequential, Direct}
 use Rattle.icet_multi.specs.declared.settings.Single.{Single}
 use Rattle.icet_multi.specs.declared.settings.Single.TheVariants.{Tree, Bswap, Radixk}
 use Rattle.icet_multi.specs.Direct.{IsDirect, TileView, direct_exchanges, direct_messages, tile_bracket}
@@ -63,6 +67,24 @@ abbrev pub strategy_of : Single → ℕ → TileStrategy
 strategy_of Tree k = tree_strategy
 strategy_of Bswap k = bswap_strategy
 strategy_of Radixk k = radix_strategy k
+
+-- the rule of a strategy, which may rest on one for a single tile
+abbrev pub rule_by : Strategy → TileStrategy → Rule
+rule_by Sequential s = sequential_rule s
+rule_by Direct s = direct_rule
+
+-- the rule that settings name
+abbrev pub rule_of : Settings → Rule
+rule_of settings = rule_by settings.strategy (strategy_of settings.single settings.k)
+
+-- the bracket of each tile joins all ranks in their order, or the tile's contributors in theirs
+pub record JoinsInOrder (rule : Rule) (order : List ℕ) (tiles : List TileView) : Type 0 where
+  pub count : length (rule.brackets order tiles) ≡ length tiles
+  pub joined : (t : ℕ) (x : TileView) (b : Bracket) → slice_get tiles t ≡ Some x → slice_get (rule.brackets order tiles) t ≡ Some b → (leaves b ≡ order) ⊎ (leaves b ≡ x.contributors)
+
+-- each strategy joins in the order
+abbrev pub RulesJoinInOrder : Type 0
+RulesJoinInOrder = (settings : Settings) (order : List ℕ) (tiles : List TileView) → JoinsInOrder (rule_of settings) order tiles
 
 -- the direct strategy's plan is that of its rule
 abbrev pub DirectIsByRule : Type 0

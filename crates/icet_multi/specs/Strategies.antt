@@ -1,10 +1,7 @@
--- What a strategy is given, and the plan that it makes.
+-- What a strategy is given: the tiles of a layout with their contributors.
 use Rattle.std.specs.Prelude.{◌≡◌, ℕ, ◌*◌, Bool, List, [], ◌∷◌, filter, slice_get, Some}
-use Rattle.icet_model.specs.Plan.{PlanView}
 use Rattle.icet_model.specs.Tiles.{TileView as AreaTile}
-use Rattle.icet_multi.specs.declared.settings.Strategy.{Strategy}
-use Rattle.icet_multi.specs.declared.settings.Strategy.TheVariants.{Direct}
-use Rattle.icet_multi.specs.Direct.{TileView, IsDirect}
+use Rattle.icet_multi.specs.Direct.{TileView}
 
 -- the tiles of a layout, each with the ranks that contribute to it
 abbrev pub tile_ranks : List AreaTile → List (List ℕ) → List TileView
@@ -24,7 +21,3 @@ pub record IsTileAt (layout : List AreaTile) (who : List (List ℕ)) (t : ℕ) (
 pub record KeepsOrder (order list : List ℕ) : Type 0 where
   pub keeps : ℕ → Bool
   pub is : list ≡ filter keeps order
-
--- the plan of a strategy for these tiles
-abbrev pub IsPlanOf : Strategy → ℕ → List TileView → PlanView → Type 0
-IsPlanOf Direct ranks tiles plan = IsDirect ranks tiles plan

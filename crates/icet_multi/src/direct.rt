@@ -1,6 +1,7 @@
 ghost use Rattle.std.specs.Prelude.{◌≡◌, ◌≤◌, ◌<◌, ◌^◌, ◌++◌, [], ◌∷◌, ℕ, IfOk, map, length};
 ghost use Rattle.std.specs.List.{range_with_len};
 ghost use Rattle.icet_multi.specs.Direct.{AreTiles, IsDirect, IsTile, TileView, direct_plan, direct_program, fetch, folds, sending, sendings, send_of, showing, showings, take_of, tile_bracket};
+ghost use Rattle.icet_model.specs.declared.limits.TheConstants.{MAX_RANKS, MAX_TILES};
 
 use crate::TileRanks;
 use icet_base::{NoMemory, Rank};
@@ -9,15 +10,15 @@ use std::alloc::Global;
 
 /// The plan over these tiles in which every contributor to a tile, other than its display, sends its
 /// whole image of the tile to the display in round 0, and the display folds the images from the left
-/// in the order of the contributors. There are at most 64 ranks and 16 tiles, each tile has a
+/// in the order of the contributors. There are at most 256 ranks and 64 tiles, each tile has a
 /// display of its own, and no contributor stands twice in a tile.
 ///
 /// # Errors
 ///
 /// `NoMemory`.
 pub fn direct(alloc: Global, ranks: u32, tiles: &[TileRanks]) -> Result<Plan, NoMemory>
-    requires ranks { ranks ≤ 256 }
-    requires few { length tiles.now ≤ 64 }
+    requires ranks { ranks ≤ MAX_RANKS }
+    requires few { length tiles.now ≤ MAX_TILES }
     requires tiles { AreTiles ranks tiles.now }
     ensures plan { IfOk result (λ p. IsDirect ranks tiles.now p) }
     ensures programs { IfOk result (λ p. p ≡ direct_plan ranks tiles.now) }
@@ -61,8 +62,8 @@ fn brackets_of(alloc: Global, tiles: &[TileRanks]) -> Result<Vec<Bracket>, NoMem
 
 #[tactic(auto, using(crate::proofs::DirectSteps::listed_more))]
 fn programs_of(alloc: Global, ranks: u32, tiles: &[TileRanks]) -> Result<Vec<Program>, NoMemory>
-    requires ranks { ranks ≤ 256 }
-    requires few { length tiles.now ≤ 64 }
+    requires ranks { ranks ≤ MAX_RANKS }
+    requires few { length tiles.now ≤ MAX_TILES }
     requires tiles { AreTiles ranks tiles.now }
     ensures { IfOk result (λ all. all.items ≡ map (direct_program tiles.now) (range_with_len 0 ranks)) }
 {
@@ -76,7 +77,7 @@ fn programs_of(alloc: Global, ranks: u32, tiles: &[TileRanks]) -> Result<Vec<Pro
 
 // a rank's operations: what it hands in, tile by tile, and then what it shows
 fn ops_of(alloc: Global, rank: Rank, tiles: &[TileRanks]) -> Result<Vec<Op>, NoMemory>
-    requires { length tiles.now ≤ 64 }
+    requires { length tiles.now ≤ MAX_TILES }
     ensures { IfOk result (λ ops. ops.items ≡ direct_program tiles.now rank) }
 {
     let mut ops = Vec::new(alloc);
@@ -86,7 +87,7 @@ fn ops_of(alloc: Global, rank: Rank, tiles: &[TileRanks]) -> Result<Vec<Op>, NoM
 }
 
 fn push_sendings(ops: &mut Vec<Op>, rank: Rank, tiles: &[TileRanks]) -> Result<(), NoMemory>
-    requires { length tiles.now ≤ 64 }
+    requires { length tiles.now ≤ MAX_TILES }
     ensures { IfOk result (λ _. ops.new.items ≡ ops.old.items ++ sendings 0 tiles.now rank) }
 {
     for t in 0..tiles.len() {
@@ -96,7 +97,7 @@ fn push_sendings(ops: &mut Vec<Op>, rank: Rank, tiles: &[TileRanks]) -> Result<(
 }
 
 fn push_showings(ops: &mut Vec<Op>, rank: Rank, tiles: &[TileRanks]) -> Result<(), NoMemory>
-    requires { length tiles.now ≤ 64 }
+    requires { length tiles.now ≤ MAX_TILES }
     ensures { IfOk result (λ _. ops.new.items ≡ ops.old.items ++ showings 0 tiles.now rank) }
 {
     for t in 0..tiles.len() {

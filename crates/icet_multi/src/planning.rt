@@ -1,8 +1,11 @@
 ghost use Rattle.std.specs.Prelude.{◌≡◌, ◌<◌, ◌≤◌, IfOk, All, length};
 ghost use Rattle.icet_tiles.specs.Contributors.{HasEachOnce};
-ghost use Rattle.icet_multi.specs.Strategies.{IsPlanOf, IsTileAt, KeepsOrder, tile_ranks};
+ghost use Rattle.icet_multi.specs.Rules.{IsPlanBy, rule_of};
+ghost use Rattle.icet_multi.specs.Strategies.{IsTileAt, KeepsOrder, tile_ranks};
+ghost use Rattle.icet_model.specs.declared.limits.TheConstants.{MAX_RANKS};
 
 use crate::direct::direct;
+use crate::sequential::sequential;
 use crate::settings::{Settings, Strategy};
 use crate::tile::TileRanks;
 use icet_base::{NoMemory, Rank};
@@ -12,7 +15,7 @@ use std::alloc::Global;
 
 /// The plan of the strategy for the tiles of a layout and for `ranks` ranks. Conditions: `who` has one
 /// list per tile; there are at most 256 ranks, and the display ranks are among them; `order` has each
-/// rank once, and each list of `who` keeps the order.
+/// rank once, and each list of `who` keeps the order; factors of at least 2 are allowed.
 ///
 /// # Errors
 ///
@@ -26,16 +29,19 @@ pub fn plan(
     order: &[Rank],
     settings: &Settings,
 ) -> Result<Plan, NoMemory>
-    requires ranks { ranks ≤ 256 }
+    requires ranks { ranks ≤ MAX_RANKS }
     requires lists { length who.now ≡ length layout.now }
     requires displays { All (λ tile. tile.display < ranks) layout.now }
     requires order { HasEachOnce ranks order.now }
     requires kept { All (KeepsOrder order.now) who.now }
-    ensures { IfOk result (IsPlanOf settings.now.strategy ranks (tile_ranks layout.now who.now)) }
+    requires split { 2 ≤ settings.now.k }
+    ensures { IfOk result (IsPlanBy (rule_of settings.now) order.now (tile_ranks layout.now who.now)) }
 {
+    // That the layout is lawful is known after a look at it.
     let _count = layout.count();
     let tiles = tiles_of(alloc, layout, who)?;
     match settings.strategy {
+        Strategy::Sequential => sequential(alloc, order, &tiles, settings.single, settings.k),
         Strategy::Direct => direct(alloc, ranks, &tiles),
     }
 }

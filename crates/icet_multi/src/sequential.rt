@@ -7,6 +7,7 @@ ghost use Rattle.icet_tiles.specs.Contributors.{HasEachOnce};
 ghost use Rattle.icet_multi.specs.Rules.{IsPlanBy, sequential_rule, strategy_of};
 ghost use Rattle.icet_multi.specs.Sequential.{AreLegsOf, IsShown, IsTileLegOf};
 ghost use Rattle.icet_legs.specs.InRow.{tile_leg};
+ghost use Rattle.icet_model.specs.declared.limits.TheConstants.{MAX_RANKS, MAX_TILES};
 
 use crate::TileRanks;
 use crate::settings::Single;
@@ -31,9 +32,9 @@ pub fn sequential(
     single: Single,
     k: u32,
 ) -> Result<Plan, NoMemory>
-    requires low { length order.now ≤ 256 }
+    requires low { length order.now ≤ MAX_RANKS }
     requires order { HasEachOnce (length order.now) order.now }
-    requires few { length tiles.now ≤ 64 }
+    requires few { length tiles.now ≤ MAX_TILES }
     requires tiles { AllByRecursion (IsShown (length order.now)) tiles.now }
     requires split { 2 ≤ k }
     ensures { IfOk result (IsPlanBy (sequential_rule (strategy_of single k)) order.now tiles.now) }
@@ -51,9 +52,9 @@ fn legs_of(
     single: Single,
     k: u32,
 ) -> Result<Vec<TileLeg>, NoMemory>
-    requires low { length order.now ≤ 256 }
+    requires low { length order.now ≤ MAX_RANKS }
     requires order { HasEachOnce (length order.now) order.now }
-    requires few { length tiles.now ≤ 64 }
+    requires few { length tiles.now ≤ MAX_TILES }
     requires tiles { AllByRecursion (IsShown (length order.now)) tiles.now }
     requires split { 2 ≤ k }
     ensures { IfOk result (λ legs. AreLegsOf (strategy_of single k) order.now tiles.now (length tiles.now) legs.items) }
@@ -92,7 +93,7 @@ fn leg_of(
     single: Single,
     k: u32,
 ) -> Result<Leg, NoMemory>
-    requires low { length order.now ≤ 256 }
+    requires low { length order.now ≤ MAX_RANKS }
     requires order { HasEachOnce (length order.now) order.now }
     requires tile { IsShown (length order.now) tile.now }
     requires early { first < 2 ^ 31 }
@@ -126,7 +127,7 @@ fn exchange_plan(
     k: u32,
 ) -> Result<Leg, NoMemory>
     requires distinct { AllPairs (λ a b. a ≢ b) order.now }
-    requires low { length order.now ≤ 256 }
+    requires low { length order.now ≤ MAX_RANKS }
     requires leaves { length leaves.now ≡ length order.now }
     requires display { StandsIn order.now display }
     requires small { pixels < 2 ^ 31 }

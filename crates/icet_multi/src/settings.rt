@@ -1,6 +1,8 @@
 /// How the work on several tiles is shared out.
 #[derive(Clone, Copy, Debug, PartialEq, Eq)]
 pub enum Strategy {
+    /// Tile after tile, all ranks join their images of it by the strategy for one tile.
+    Sequential,
     /// Every contributor to a tile sends its whole image of it to the tile's display.
     Direct,
 }

@@ -7,6 +7,7 @@ use Rattle.icet_collect.specs.Collect.{CanvasView, blank_canvas}
 use Rattle.icet_net.specs.Net.{sides_at, AreSides}
 use Rattle.icet_net.specs.Opening.{sides_of}
 use Rattle.icet_model.proofs.Lists.{any_default}
+use Rattle.icet_model.specs.declared.limits.TheConstants.{MAX_RANK_PIXELS}
 
 pub canvases_more : (sides : List (ℕ × ℕ)) (strands t : ℕ) (old new : List CanvasView) (x : CanvasView) (s d : ℕ × ℕ) → t < length sides → old ≡ map (λ t. blank_canvas t (sides_at sides t).0 (sides_at sides t).1 strands) (range_with_len 0 t) → s ≡ get_or sides t d → x ≡ blank_canvas t s.0 s.1 strands → new ≡ old ++ x ∷ [] → new ≡ map (λ t. blank_canvas t (sides_at sides t).0 (sides_at sides t).1 strands) (range_with_len 0 (t + 1))
 canvases_more sides strands t old new x s d l o e h n =
@@ -26,12 +27,12 @@ products : (layout : List TileView) → map (λ (s : ℕ × ℕ). s.0 * s.1) (ma
 products [] = refl
 products (x ∷ xs) = ap (λ ys. x.area.w * x.area.h ∷ ys) (products xs)
 
-pub are_sides : (layout : List TileView) (sizes : List ℕ) → map (λ (tile : TileView). tile.area.w * tile.area.h) layout ≡ sizes → AllByRecursion (λ n. n ≤ 67108864) sizes → AreSides sizes (map sides_of layout)
+pub are_sides : (layout : List TileView) (sizes : List ℕ) → map (λ (tile : TileView). tile.area.w * tile.area.h) layout ≡ sizes → AllByRecursion (λ n. n ≤ MAX_RANK_PIXELS) sizes → AreSides sizes (map sides_of layout)
 are_sides layout sizes e small = record { products = products layout ∙ e; small = small }
 
-all_small : (sides : List (ℕ × ℕ)) → AllByRecursion (λ n. n ≤ 67108864) (map (λ (s : ℕ × ℕ). s.0 * s.1) sides) → AllByRecursion (λ (s : ℕ × ℕ). s.0 * s.1 ≤ 67108864) sides
+all_small : (sides : List (ℕ × ℕ)) → AllByRecursion (λ n. n ≤ MAX_RANK_PIXELS) (map (λ (s : ℕ × ℕ). s.0 * s.1) sides) → AllByRecursion (λ (s : ℕ × ℕ). s.0 * s.1 ≤ MAX_RANK_PIXELS) sides
 all_small [] a = tt
 all_small (x ∷ xs) a = (a.0, all_small xs a.1)
 
-pub sides_small : (layout : List TileView) (sizes : List ℕ) (sides : List (ℕ × ℕ)) → map (λ (tile : TileView). tile.area.w * tile.area.h) layout ≡ sizes → AllByRecursion (λ n. n ≤ 67108864) sizes → sides ≡ map sides_of layout → AllByRecursion (λ (s : ℕ × ℕ). s.0 * s.1 ≤ 67108864) sides
-sides_small layout sizes sides e small is = subst (λ xs. AllByRecursion (λ (s : ℕ × ℕ). s.0 * s.1 ≤ 67108864) xs) (sym is) (all_small (map sides_of layout) (subst (AllByRecursion (λ n. n ≤ 67108864)) (sym (products layout ∙ e)) small))
+pub sides_small : (layout : List TileView) (sizes : List ℕ) (sides : List (ℕ × ℕ)) → map (λ (tile : TileView). tile.area.w * tile.area.h) layout ≡ sizes → AllByRecursion (λ n. n ≤ MAX_RANK_PIXELS) sizes → sides ≡ map sides_of layout → AllByRecursion (λ (s : ℕ × ℕ). s.0 * s.1 ≤ MAX_RANK_PIXELS) sides
+sides_small layout sizes sides e small is = subst (λ xs. AllByRecursion (λ (s : ℕ × ℕ). s.0 * s.1 ≤ MAX_RANK_PIXELS) xs) (sym is) (all_small (map sides_of layout) (subst (AllByRecursion (λ n. n ≤ MAX_RANK_PIXELS)) (sym (products layout ∙ e)) small))

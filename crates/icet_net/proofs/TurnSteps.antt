@@ -1,7 +1,5 @@
--- What turns of ranks, one after the other, leave of a list of machines.
-use Rattle.std.proofs.Common.{◌≡◌, ◌≢◌, ℕ, ◌+◌, ◌*◌, ◌/◌, rules, add-zero, ◌<◌, ◌≤◌, List, length, set, refl, sym, ap, ◌∙◌, subst, arith, ◌⊎◌, ⊎_elim, inl, inr, Option}
-use Rattle.std.proofs.lemmas.Nat.{div-mul-add}
-use Rattle.std.proofs.lemmas.List.{length-set, get_or-set_same, get_or-set_other}
+-- What the steps of one rank's turn leave of its machine.
+use Rattle.std.proofs.Common.{◌≡◌, ◌≢◌, ℕ, ◌+◌, ◌<◌, ◌≤◌, List, length, refl, sym, ap, ◌∙◌, subst, arith, ◌⊎◌, ⊎_elim, inl, inr, Option}
 use Rattle.icet_model.specs.Pixel.{Pixel}
 use Rattle.icet_model.specs.Run.{Piece}
 use Rattle.icet_model.specs.declared.exchange.Kind.{Kind}
@@ -16,8 +14,8 @@ use Rattle.icet_rank.specs.declared.machine.Step.TheVariants.{Moved, Pending, Do
 use Rattle.icet_rank.specs.Steps.{SameJob, SamePairings, Carries, Misses, IsKnownReady, Moves, Pends, Ends, misses_at}
 use Rattle.std.proofs.lemmas.Option.{slice_get_within}
 use Rattle.std.specs.List.{slice_get}
-use Rattle.icet_net.specs.Ranks.{machine_at, EachRank, GoesOn, HadTurn}
-use Rattle.icet_net.specs.Turns.{share_start, Between, TurnsOn, MovedBy}
+use Rattle.icet_net.specs.Ranks.{GoesOn, HadTurn}
+use Rattle.icet_net.specs.Turns.{TurnsOn, MovedBy}
 use Rattle.icet_model.proofs.Numbers.{same_or_not}
 
 module _ where
@@ -37,71 +35,6 @@ module _ where
     };
     counter = let x = g.counter in let y = h.counter in omega arith;
   }
-
-  pub each_goes_on_refl : (xs : List MachineView) → EachRank GoesOn xs xs
-  each_goes_on_refl xs = record { count = refl; each = λ r _. goes_on_refl (machine_at xs r) }
-
-  pub each_goes_on_trans : (xs ys zs : List MachineView) → EachRank GoesOn xs ys → EachRank GoesOn ys zs → EachRank GoesOn xs zs
-  each_goes_on_trans xs ys zs g h = record {
-    count = h.count ∙ g.count;
-    each = λ r l. goes_on_trans (machine_at xs r) (machine_at ys r) (machine_at zs r) (g.each r l) (h.each r (let e = g.count in omega arith));
-  }
-
-  -- one rank more went on
-  pub each_goes_on_set : (xs ys : List MachineView) (at : ℕ) (m : MachineView) → EachRank GoesOn xs ys → at < length ys → GoesOn (machine_at ys at) m → EachRank GoesOn xs (set ys at m)
-  each_goes_on_set xs ys at m g l h = record {
-    count = length-set ys at m ∙ g.count;
-    each = λ r k. ⊎_elim
-        (λ (e : r ≡ at). rw (e, get_or-set_same) (goes_on_trans (machine_at xs at) (machine_at ys at) m (subst (λ x. GoesOn (machine_at xs x) (machine_at ys x)) e (g.each r k)) h))
-        (λ (n : r ≢ at). rw get_or-set_other (g.each r k))
-        (same_or_not r at);
-  }
-
--- a worker's ranks end behind where they begin
-share_later : (n w k : ℕ) → 1 ≤ k → share_start n w k ≤ share_start n (w + 1) k
-share_later n w k h = search rules
-
--- the last worker's ranks end where all ranks end
-pub share_end : (n k : ℕ) → 1 ≤ k → share_start n k k ≡ n
-share_end n k h = ap (λ x. x / k) (sym (add-zero (n * k))) ∙ div-mul-add n k 0 (omega arith)
-
-module _ (P : MachineView → MachineView → Type 0) where
-  -- no rank had its turn yet
-  pub between_none : (n : ℕ) (xs : List MachineView) → Between P n n xs xs
-  between_none n xs = record { count = refl; turned = λ r l u. absurd (omega arith); before = λ r _. refl; behind = λ r _. refl }
-
-  -- the next rank had its turn too
-  pub between_next : (from at : ℕ) (xs ys : List MachineView) (m : MachineView) → Between P from at xs ys → from ≤ at → at < length ys → P (machine_at ys at) m → Between P from (at + 1) xs (set ys at m)
-  between_next from at xs ys m b l u p = record {
-    count = length-set ys at m ∙ b.count;
-    turned = λ r k j. ⊎_elim
-        (λ (e : r ≡ at). rw (e, get_or-set_same) (subst (λ x. P x m) (b.behind at (omega arith)) p))
-        (λ (n : r ≢ at). rw get_or-set_other (b.turned r k (omega arith)))
-        (same_or_not r at);
-    before = λ r k. let n : r ≢ at = omega arith in rw get_or-set_other (b.before r k);
-    behind = λ r k. let n : r ≢ at = omega arith in rw get_or-set_other (b.behind r (omega arith));
-  }
-
-  -- two neighbouring ranges had their turns, one after the other
-  pub between_both : (a b c : ℕ) (xs ys zs : List MachineView) → a ≤ b → b ≤ c → Between P a b xs ys → Between P b c ys zs → Between P a c xs zs
-  between_both a b c xs ys zs l u f s = record {
-    count = s.count ∙ f.count;
-    turned = λ r k j. ⊎_elim
-        (λ (e : r < b). subst (P (machine_at xs r)) (sym (s.before r e)) (f.turned r k e))
-        (λ (n : b ≤ r). subst (λ x. P x (machine_at zs r)) (f.behind r n) (s.turned r n j))
-        (let h : (r < b) ⊎ (b ≤ r) = grind arith in h);
-    before = λ r k. s.before r (omega arith) ∙ f.before r k;
-    behind = λ r k. s.behind r k ∙ f.behind r (omega arith);
-  }
-
-  -- one worker more had its turn
-  pub shares_next : (w k : ℕ) (xs ys zs : List MachineView) → 1 ≤ k → Between P 0 (share_start (length ys) w k) xs ys → Between P (share_start (length ys) w k) (share_start (length ys) (w + 1) k) ys zs → Between P 0 (share_start (length zs) (w + 1) k) xs zs
-  shares_next w k xs ys zs h f s = subst (λ n. Between P 0 (share_start n (w + 1) k) xs zs) (sym s.count) (between_both 0 (share_start (length ys) w k) (share_start (length ys) (w + 1) k) xs ys zs (omega arith) (share_later (length ys) w k h) f s)
-
-module _ where
-  -- every rank had its turn
-  pub all_turned : (burst n : ℕ) (xs ys : List MachineView) → Between (TurnsOn burst) 0 n xs ys → n ≡ length xs → EachRank (HadTurn burst) xs ys
-  all_turned burst n xs ys b e = record { count = b.count; each = λ r l. (b.turned r (omega arith) (omega arith)).had_turn }
 
 -- the steps of one rank's turn
 module _ {a b c : MachineView} (steps : ℕ) (so_far : MovedBy steps a b) (job : SameJob b c) (pairings : SamePairings b c) where

@@ -4,6 +4,7 @@ use Rattle.std.specs.List.{AllByRecursion, flat_map, range_with_len}
 use Rattle.icet_model.specs.Exchange.{sends_to, of_rank}
 use Rattle.icet_model.specs.Plan.{PlanView, IsPlan, plan_exchanges}
 use Rattle.icet_collect.specs.Collect.{CanvasView, blank_canvas}
+use Rattle.icet_model.specs.declared.limits.TheConstants.{MAX_RANK_PIXELS}
 
 -- what contracts see of a hull: the plan, how many messages may wait on a pair, the strands, each
 -- tile's width and height, and the ordered pairs used, ascending by from and then by to
@@ -42,7 +43,7 @@ sides_at sides t = get_or sides t (0, 0)
 -- the widths and heights are those of tiles of these numbers of pixels, and no tile is too large
 pub record AreSides (sizes : List ℕ) (sides : List (ℕ × ℕ)) : Type 0 where
   pub products : map (λ s. s.0 * s.1) sides ≡ sizes
-  pub small : AllByRecursion (λ n. n ≤ 67108864) sizes
+  pub small : AllByRecursion (λ n. n ≤ MAX_RANK_PIXELS) sizes
 
 -- what the type of a hull keeps
 pub record IsHull (hull : HullView) : Type 0 where

@@ -13,6 +13,7 @@ use Rattle.icet_rank.specs.Moves.{port_to}
 use Rattle.icet_rank.specs.Machine.{MachineView}
 use Rattle.icet_net.specs.Net.{HullView, messages_on, pairs_of}
 use Rattle.icet_net.specs.Ranks.{AreWholeImages, machine_at}
+use Rattle.icet_model.specs.declared.limits.TheConstants.{MAX_RANK_PIXELS}
 
 -- a tile's width and height
 abbrev pub sides_of : TileView → ℕ × ℕ
@@ -23,7 +24,7 @@ sides_of tile = (tile.area.w, tile.area.h)
 pub record CanOpen (plan : PlanView) (layout : List TileView) (images : List (List (Piece (List Pixel)))) : Type 0 where
   pub sizes : map (λ tile. tile.area.w * tile.area.h) layout ≡ plan.tiles.sizes
   pub displays : map (λ tile. tile.display) layout ≡ plan.tiles.displays
-  pub small : AllByRecursion (λ n. n ≤ 67108864) plan.tiles.sizes
+  pub small : AllByRecursion (λ n. n ≤ MAX_RANK_PIXELS) plan.tiles.sizes
   pub count : length images ≡ length plan.programs
   pub whole : AllByRecursion (AreWholeImages plan.tiles.sizes) images
 

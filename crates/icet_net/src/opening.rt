@@ -3,6 +3,7 @@ ghost use Rattle.std.specs.List.{AllByRecursion};
 ghost use Rattle.icet_net.specs.Net.{pairs_of, blank_canvases};
 ghost use Rattle.icet_net.specs.Opening.{CanOpen, sides_of, hull_for};
 ghost use Rattle.icet_net.specs.Ranks.{AreHulls, AreOpenedWith};
+ghost use Rattle.icet_model.specs.declared.limits.TheConstants.{MAX_RANK_PIXELS};
 
 use crate::hull::Hull;
 use crate::porting::open_ports;
@@ -79,7 +80,7 @@ fn sides_in(alloc: Global, layout: &Layout) -> Result<Vec<(u32, u32)>, NoMemory>
 /// A blank canvas for each tile of these sides.
 fn canvases_of(alloc: Global, sides: &[(u32, u32)], strands: u32) -> Result<Vec<Canvas>, NoMemory>
     requires few { length sides.now < 2 ^ 32 }
-    requires small { AllByRecursion (λ s. s.0 * s.1 ≤ 67108864) sides.now }
+    requires small { AllByRecursion (λ s. s.0 * s.1 ≤ MAX_RANK_PIXELS) sides.now }
     requires strands { strands ≡ 1 }
     ensures { IfOk result (λ canvases. canvases.items ≡ blank_canvases sides.now strands) }
 {

@@ -113,7 +113,7 @@ module _ (g : Team) (factor : ℕ → ℕ) (q : ℕ) (f : AreFactors g factor q)
       ∙ (ap (λ z. (j * z + h) * s + 0) e
       ∙ (let y : (j * suc k + h) * s + 0 ≡ (0 + j * suc k + h) * s = omega arith in y))))))
 
-  fold_is : (i c : ℕ) → i ≤ q → g.n ≡ c * stride factor i → radix_fold factor i (row g.leaf 0 g.n) ≡ row (firsts i) 0 c
+  pub fold_is : (i c : ℕ) → i ≤ q → g.n ≡ c * stride factor i → radix_fold factor i (row g.leaf 0 g.n) ≡ row (firsts i) 0 c
   fold_is zero c l e =
       let n : g.n ≡ c = omega (arith, e) in
       ap (row g.leaf 0) n ∙ row_same c 0 0 g.leaf (firsts 0) (λ j i. ap g.leaf (let z : 0 + j ≡ (0 + j) * 1 = omega arith in z))

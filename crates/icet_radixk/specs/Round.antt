@@ -12,6 +12,7 @@ use Rattle.icet_radixk.specs.Factors.{factor_at}
 use Rattle.icet_radixk.specs.Radixk.{AreFactorsOf, radix_bracket, radix_program}
 use Rattle.icet_legs.specs.Task.{IsTask, TaskView, task_team}
 use Rattle.icet_radixk.specs.declared.round.Round.{Round}
+use Rattle.icet_model.specs.declared.limits.TheConstants.{MAX_RANKS}
 
 -- a round of a participant of the task
 pub record IsRound (x : TaskView) (r : Round) : Type 0 where
@@ -20,7 +21,7 @@ pub record IsRound (x : TaskView) (r : Round) : Type 0 where
   pub number : r.number < 2 ^ 16
   pub wide : 0 < r.stride
   pub many : 0 < r.factor
-  pub low : r.factor ≤ 256
+  pub low : r.factor ≤ MAX_RANKS
   pub inside : (h : ℕ) → h < r.factor → member r.stride r.factor r.p h < length x.participants
   pub order : r.own.lo ≤ r.own.hi
 

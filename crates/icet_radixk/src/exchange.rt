@@ -6,6 +6,7 @@ ghost use Rattle.icet_legs.specs.Team.{team_of};
 ghost use Rattle.icet_radixk.specs.Radixk.{radix_bracket, radix_program, radix_strategy};
 ghost use Rattle.icet_radixk.specs.Factors.{factor_at};
 ghost use Rattle.icet_radixk.specs.Round.{IsSplitBy, bracket_by, programs_by};
+ghost use Rattle.icet_model.specs.declared.limits.TheConstants.{MAX_RANKS};
 
 use crate::divisors::factors;
 use crate::folds::fold_by_factors;
@@ -35,7 +36,7 @@ pub fn exchange_plan(
     k: u32,
 ) -> Result<Leg, NoMemory>
     requires distinct { AllPairs (λ a b. a ≢ b) participants.now }
-    requires low { length participants.now ≤ 256 }
+    requires low { length participants.now ≤ MAX_RANKS }
     requires leaves { length leaves.now ≡ length participants.now }
     requires display { StandsIn participants.now display }
     requires small { pixels < 2 ^ 31 }

@@ -5,6 +5,7 @@ ghost use Rattle.icet_plan.specs.Each.{each};
 ghost use Rattle.icet_legs.specs.Group.{cut_at, digit, group_cuts, group_joins, group_ops, group_sends, group_takes, member};
 ghost use Rattle.icet_legs.specs.Task.{task_team};
 ghost use Rattle.icet_radixk.specs.Round.{IsRound, round_group, round_cuts, round_ops, round_send, round_sends, round_take, round_takes};
+ghost use Rattle.icet_model.specs.declared.limits.TheConstants.{MAX_RANKS};
 
 use icet_base::NoMemory;
 use icet_legs::{Range, Task};
@@ -39,7 +40,7 @@ pub(crate) fn cut_at(range: Range, k: u32, h: u32) -> u32
 pub(crate) fn part(range: Range, k: u32, h: u32) -> Range
     requires order { range.lo ≤ range.hi }
     requires part { h < k }
-    requires low { k ≤ 256 }
+    requires low { k ≤ MAX_RANKS }
     ensures lo { result.lo ≡ cut_at range.lo range.hi k h }
     ensures hi { result.hi ≡ cut_at range.lo range.hi k (suc h) }
     ensures order { result.lo ≤ result.hi }

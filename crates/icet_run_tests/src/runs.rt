@@ -8,7 +8,9 @@ use icet_cli::{Status, run};
 use icet_jobs::{Way, composite};
 use icet_multi::{Settings, Single, Strategy};
 use icet_ring::{MemInbox, MemOutbox, MemWires, Wires};
+use icet_ring_wires::{RingWires, ScriptWires};
 use icet_scene::read::read;
+use icet_tests::meeting::MeetingGate;
 use std::alloc::Global;
 use std::process::Abort;
 use std::sync::atomic::{AtomicU32, Ordering};
@@ -61,13 +63,13 @@ const NEVER: u64 = 1_000_000;
 
 /// What has to come of a run.
 #[derive(Clone, Copy)]
-struct Want {
+pub(crate) struct Want {
     status: Status,
     written: &'static [u8],
     noted: &'static str,
 }
 
-fn done(written: &'static [u8]) -> Want {
+pub(crate) fn done(written: &'static [u8]) -> Want {
     Want {
         status: Status::Ok,
         written,
@@ -75,7 +77,7 @@ fn done(written: &'static [u8]) -> Want {
     }
 }
 
-fn fault(status: Status, written: &'static [u8], noted: &'static str) -> Want {
+pub(crate) fn fault(status: Status, written: &'static [u8], noted: &'static str) -> Want {
     Want {
         status,
         written,
@@ -91,7 +93,7 @@ fn source_of(alloc: Global, scene: &str, fails: u64) -> Result<MemSource, NoMemo
 
 /// What came of a run.
 #[derive(Drop)]
-struct Came {
+pub(crate) struct Came {
     status: Status,
     sink: MemSink,
     notes: MemSink,
@@ -106,11 +108,22 @@ fn came_of<R: Threads + Sync>(
     source: &mut MemSource,
     fails: u64,
 ) -> Result<Came, NoMemory> {
+    came_over(rt, alloc, words, source, fails, &mut MemWires::new(alloc))
+}
+
+/// The same over these wires.
+fn came_over<R: Threads + Sync, W: Wires>(
+    rt: &R,
+    alloc: Global,
+    words: &[&str],
+    source: &mut MemSource,
+    fails: u64,
+    wires: &mut W,
+) -> Result<Came, NoMemory> {
     let mut sink = MemSink::new(alloc, 1024, 40, vec![in alloc; fails]?)?;
     let mut notes = MemSink::new(alloc, 1024, 1024, Vec::new(alloc))?;
-    let mut wires = MemWires::new(alloc);
     let status = run(
-        rt, alloc, words, source, &mut sink, &mut notes, &mut wires, &PlainGate,
+        rt, alloc, words, source, &mut sink, &mut notes, wires, &PlainGate,
     );
     Ok(Came {
         status,
@@ -120,7 +133,7 @@ fn came_of<R: Threads + Sync>(
 }
 
 /// What comes of a run on this scene, in which nothing fails.
-fn came_of_scene<R: Threads + Sync>(
+pub(crate) fn came_of_scene<R: Threads + Sync>(
     rt: &R,
     alloc: Global,
     words: &[&str],
@@ -131,7 +144,7 @@ fn came_of_scene<R: Threads + Sync>(
 }
 
 /// Stops the test unless this came.
-fn assert_came<R: Abort>(rt: &R, came: &Result<Came, NoMemory>, want: Want, case: &str) {
+pub(crate) fn assert_came<R: Abort>(rt: &R, came: &Result<Came, NoMemory>, want: Want, case: &str) {
     match came {
         Ok(came) => {
             assert_eq!(rt; came.status, want.status, "{case}");
@@ -143,30 +156,16 @@ fn assert_came<R: Abort>(rt: &R, came: &Result<Came, NoMemory>, want: Want, case
 }
 
 #[test]
-fn each_scene_gets_its_picture_or_its_line(rt: HostRuntime) {
-    let refused = Status::SceneRefused;
-    for (scene, want) in [
-        (POINT, done(PICTURE)),
-        (AROUND, done(FOUR)),
-        (TWO_RANKS, done(TIE)),
-        (NOTHING, done(BLANK)),
-        (THREE_RANKS, done(OF_EACH)),
-        (
-            "icet-scene 1\nmode blend\nranks 1\ntile 0 0 1 1 0\npoint 0 0 0 7 10 20 30 255\nend\n",
-            fault(refused, b"", "icet: line 2: not built yet\n"),
-        ),
-        ("", fault(refused, b"", "icet: line 1: not built yet\n")),
-        (
-            "icet-scene 1\nmode depth\nranks 1\ntile 0 0 1 1 0\npoint 0 0 0 16777215 10 20 30 255\nend\n",
-            fault(refused, b"", "icet: line 5: not built yet\n"),
-        ),
-        (
-            "icet-scene 1\nmode depth\nranks 1\ntile 0 0 8193 8192 0\nend",
-            fault(refused, b"", "icet: scene too large\n"),
-        ),
+fn each_scene_gets_its_picture(rt: HostRuntime) {
+    for (scene, picture) in [
+        (POINT, PICTURE),
+        (AROUND, FOUR),
+        (TWO_RANKS, TIE),
+        (NOTHING, BLANK),
+        (THREE_RANKS, OF_EACH),
     ] {
         let came = came_of_scene(&rt, rt.alloc(), &WORDS, scene);
-        assert_came(&rt, &came, want, scene);
+        assert_came(&rt, &came, done(picture), scene);
     }
 }
 
@@ -225,15 +224,164 @@ fn a_fault_in_mid_stream_is_answered(rt: HostRuntime) {
     }
 }
 
+/// Five ranks that draw nothing, over seven pixels.
+const FIVE_RANKS: &str = "icet-scene 1\nmode depth\nranks 5\ntile 0 0 7 1 0\nend\n";
+
+/// Three ranks that draw nothing; the display swaps with nobody.
+const OUTSIDE: &str = "icet-scene 1\nmode depth\nranks 3\ntile 0 0 4 1 1\nend\n";
+
+const SWAPS: &[u8] =
+    b"0 2 1 0 3 7\n0 3 2 0 1 3\n1 0 0 0 0 7\n2 0 1 0 0 3\n2 0 3 0 3 5\n2 4 2 0 5 7\n3 0 2 0 0 1\n3 0 3 0 1 3\n3 4 1 0 3 7\n4 0 3 0 5 7\n4 2 2 0 3 5\n4 3 1 0 0 3\n";
+
+// Options and the job stand in any order, with a space or a sign between name and value.
+#[test]
+fn a_plan_is_told_as_its_words_ask(rt: HostRuntime) {
+    let tree = ["--strategy", "sequential", "--single", "tree"];
+    let swap = [
+        "--strategy=sequential",
+        "--single=bswap",
+        "--k=2",
+        "--seed=0",
+    ];
+    let direct = ["--strategy", "direct", "--burst", "1"];
+    for (options, job, scene, written) in [
+        (
+            tree,
+            "traffic",
+            NOTHING,
+            b"0 2 2 0 0 2\n1 0 0 0 0 2\n2 0 1 0 0 2\n".as_slice(),
+        ),
+        (swap, "traffic", FIVE_RANKS, SWAPS),
+        (
+            swap,
+            "traffic",
+            OUTSIDE,
+            b"0 1 2 0 0 2\n0 2 1 0 2 4\n1 0 0 0 0 4\n2 0 1 0 0 2\n2 1 2 0 2 4\n",
+        ),
+        (
+            direct,
+            "plan",
+            TWO_RANKS,
+            b"tile 0 (0 1)\nrank 0 take 0 1 0 0 1\nrank 1 send 0 0 0 0 1\n",
+        ),
+        (direct, "plan", NOTHING, b"tile 0 -\n"),
+        (direct, "traffic", NOTHING, b""),
+    ] {
+        let words = [options[0], options[1], job, options[2], options[3]];
+        let came = came_of_scene(&rt, rt.alloc(), &words, scene);
+        assert_came(&rt, &came, done(written), job);
+    }
+}
+
+/// What comes of a run over rings whose ports look away at the first so many calls at which they know of nothing,
+/// or over plain rings.
+fn came_over_rings<R: Threads + Sync>(
+    rt: &R,
+    alloc: Global,
+    words: &[&str],
+    scene: &str,
+    blind: u64,
+) -> Result<Came, NoMemory> {
+    let mut source = source_of(alloc, scene, NEVER)?;
+    if blind == 0 {
+        return came_over(
+            rt,
+            alloc,
+            words,
+            &mut source,
+            NEVER,
+            &mut RingWires::new(alloc),
+        );
+    }
+    let mut calls = Vec::new(alloc);
+    for call in 0..blind {
+        calls.push(call)?;
+    }
+    came_over(
+        rt,
+        alloc,
+        words,
+        &mut source,
+        NEVER,
+        &mut ScriptWires::new(alloc, calls),
+    )
+}
+
+// Whatever the wires miss, the same bytes are written.
+#[test]
+fn each_kind_of_wires_carries_the_same_pictures(rt: HostRuntime) {
+    for blind in [0, 1, 10] {
+        for cap in ["1", "4", "64"] {
+            for (scene, picture) in [(TWO_RANKS, TIE), (THREE_RANKS, OF_EACH), (NOTHING, BLANK)] {
+                let words = [
+                    "composite",
+                    "--strategy=sequential",
+                    "--single=bswap",
+                    "--cap",
+                    cap,
+                ];
+                let came = came_over_rings(&rt, rt.alloc(), &words, scene, blind);
+                assert_came(&rt, &came, done(picture), cap);
+                let words = ["composite", "--cap", cap, "--burst", "1"];
+                let came = came_over_rings(&rt, rt.alloc(), &words, scene, blind);
+                assert_came(&rt, &came, done(picture), cap);
+            }
+        }
+    }
+}
+
+// By depth each strategy shows the nearest fragment, and of equal ones that of the lowest rank.
+#[test]
+fn each_strategy_writes_the_same_picture(rt: HostRuntime) {
+    for words in [
+        ["composite", "--strategy", "direct", "--cap", "1"],
+        ["composite", "--strategy", "sequential", "--workers", "3"],
+        [
+            "composite",
+            "--strategy=sequential",
+            "--single=tree",
+            "--burst",
+            "1",
+        ],
+        [
+            "composite",
+            "--strategy=sequential",
+            "--single=bswap",
+            "--cap",
+            "64",
+        ],
+        [
+            "composite",
+            "--strategy=sequential",
+            "--single=radixk",
+            "--k",
+            "2",
+        ],
+    ] {
+        for (scene, picture) in [(TWO_RANKS, TIE), (THREE_RANKS, OF_EACH), (POINT, PICTURE)] {
+            let came = came_of_scene(&rt, rt.alloc(), &words, scene);
+            assert_came(&rt, &came, done(picture), words[1]);
+        }
+    }
+}
+
 #[test]
 fn other_words_are_refused_with_nothing_read(rt: HostRuntime) {
     let refused = fault(Status::WordsRefused, b"", "icet: words refused\n");
     for words in [
         [].as_slice(),
-        &["composite"],
+        &["compose"],
+        &["composite", "extra"],
         &["composite", "--strategy", "reduce"],
-        &["composite", "--strategy=direct"],
-        &["composite", "--strategy", "direct", "--cap", "0"],
+        &["composite", "--cap", "0"],
+        &["composite", "--cap", "65"],
+        &["composite", "--cap", "2", "--cap", "2"],
+        &["composite", "--cap"],
+        &["composite", "--strands", "2"],
+        &["replay", "--schedule", "1,,2"],
+        &["replay", "--schedule", "256"],
+        &["--help"],
+        &["composite", "--version"],
     ] {
         match source_of(rt.alloc(), POINT, NEVER) {
             Ok(mut source) => {
@@ -474,4 +622,27 @@ fn a_run_takes_few_turns(rt: HostRuntime) {
         let are_few = matches!(entries, Ok(Some(count)) if least <= count && count <= most);
         assert!(rt; are_few, "{scene}");
     }
+}
+
+/// Whether the two ranks of a scene met in the gate when it was composited with two workers.
+fn meets<R: Threads + Sync>(rt: &R, alloc: Global) -> Result<bool, NoMemory> {
+    let mut source = source_of(alloc, TWO_RANKS, NEVER)?;
+    let mut notes = MemSink::new(alloc, 1024, 1024, Vec::new(alloc))?;
+    let gate = MeetingGate::new();
+    let status = run(
+        rt,
+        alloc,
+        &["composite", "--workers", "2"],
+        &mut source,
+        &mut SureSink::new(),
+        &mut notes,
+        &mut MemWires::new(alloc),
+        &gate,
+    );
+    Ok(status == Status::Ok && gate.have_met())
+}
+
+#[test]
+fn a_run_with_two_workers_steps_ranks_at_the_same_time(rt: HostRuntime) {
+    assert_eq!(rt; meets(&rt, rt.alloc()), Ok(true));
 }

@@ -1,5 +1,8 @@
-pub mod Values
-pub mod Numbers
-pub mod Pairs
 pub mod Ranges
-pub mod Splits
+pub mod Paints
+pub mod Orders
+pub mod Rows
+pub mod ShapeLines
+pub mod Growth
+pub mod SpanWords
+pub mod Ends

@@ -2,4 +2,3 @@ pub mod Drafts
 pub mod Lines
 pub mod Readings
 pub mod Scenes
-pub mod Words

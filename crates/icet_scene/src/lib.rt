@@ -1,9 +1,14 @@
 //! Scenes, and their text.
 #![tactic(auto)]
 
-pub mod fault;
+mod draft;
+mod form;
 mod line;
-pub mod numeral;
+mod numbers;
+mod opening;
 pub mod read;
+mod read_line;
 pub mod scene;
-pub mod words;
+mod shapes;
+
+pub use icet_scene_model::fault::{SceneFault, Want};

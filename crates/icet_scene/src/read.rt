@@ -1,104 +1,31 @@
-ghost use Rattle.std.specs.Prelude.{◌≡◌, ◌≤◌, ◌<◌, ◌+◌, ◌∷◌, [], List, IfOk, OnOk, OnErr, Err, drop, length};
-ghost use Rattle.std.specs.List.{range_with_len};
-ghost use Rattle.icet_model.specs.declared.limits.TheConstants.{MAX_SCENE_BYTES};
-ghost use Rattle.icet_scene_model.specs.Lines.{lines_of};
-ghost use Rattle.icet_scene_model.specs.Scene.{Said, text_is, text_behind, ended, sized, scene_in};
-ghost use Rattle.icet_scene.specs.Lines.{said_of, IsLawfulAt};
-ghost use Rattle.icet_scene.specs.Drafts.{IsDraft, IsSameDraft, HasPlace, HasBody};
-ghost use Rattle.icet_scene.specs.Readings.{IsReading};
+ghost use Rattle.std.specs.Prelude.{◌≡◌, ◌≤◌, ◌<◌, ◌*◌, [], All, List, IfOk, IfErr, OnOk, Err, false, length, map, if◌then◌else◌};
+ghost use Rattle.std.specs.List.{range_with_len, sum_by};
+ghost use Rattle.icet_model.specs.declared.limits.TheConstants.{MAX_RANKS, MAX_SCENE_BYTES, MAX_TILES};
+ghost use Rattle.icet_model.specs.Tiles.{IsTileArea};
+ghost use Rattle.icet_tiles.specs.Layouts.{tile_view};
+ghost use Rattle.icet_text.specs.Lines.{lines_of};
+ghost use Rattle.icet_scene_model.specs.Scene.{Said, scene_in, mode_of};
+ghost use Rattle.icet_scene_model.specs.Texts.{text_is, text_behind, ended, sized};
+ghost use Rattle.icet_scene.specs.Drafts.{IsDraft, HasPlace, HasBody};
+ghost use Rattle.icet_scene.specs.Readings.{IsReading, with_line, is_faulty};
+ghost use Rattle.icet_scene.specs.Lines.{IsFaultOf};
+ghost use Rattle.icet_scene_model.specs.SceneLines.{line_behind};
 
-use crate::fault::SceneFault;
-use crate::line::{Line, Place, line_behind};
+use crate::draft::Draft;
+use crate::form::wanted;
+use crate::read_line::read_line;
 use crate::scene::Scene;
-use crate::words::place_of;
 use icet_base::limits::{MAX_RANK_PIXELS, MAX_SCENE_BYTES};
 use icet_base::{Mode, NoMemory, Rank};
-use icet_pixel::Fragment;
-use icet_raster::Shape;
+use icet_scene_model::fault::{LineFault, SceneFault};
+use icet_scene_model::limits::WIDE_CHANNEL;
+use icet_text::lines::line_at;
 use icet_tiles::{Layout, Tile};
 use sqlite_items::Items;
 use std::alloc::Global;
 
-/// The part of a scene that was read so far.
-#[derive(Drop)]
-pub struct Draft {
-    pub place: Place,
-    pub ranks: u32,
-    pub tiles: Vec<Tile>,
-    pub shapes: Vec<(Rank, Shape)>,
-}
-
-impl Draft {
-    /// Nothing is read.
-    pub fn new(alloc: Global) -> Draft
-        ensures draft { IsDraft [] result.place result.ranks result.tiles.items result.shapes.items }
-        ensures place { HasPlace result.place result.ranks result.tiles.items result.shapes.items }
-    {
-        Draft {
-            place: Place::Start,
-            ranks: 0,
-            tiles: Vec::new(alloc),
-            shapes: Vec::new(alloc),
-        }
-    }
-
-    /// Adds what a line says that may stand at the draft's place.
-    pub fn add(&mut self, line: Line) -> Result<(), NoMemory>
-        requires lawful { IsLawfulAt self.old.place self.old.ranks line }
-        requires place { HasPlace self.old.place self.old.ranks self.old.tiles.items self.old.shapes.items }
-        ensures draft { OnOk result ((before : List Said) → IsDraft before self.old.place self.old.ranks self.old.tiles.items self.old.shapes.items → IsDraft (said_of line ∷ before) self.new.place self.new.ranks self.new.tiles.items self.new.shapes.items) }
-        ensures place { OnOk result (HasPlace self.new.place self.new.ranks self.new.tiles.items self.new.shapes.items) }
-        ensures kept { OnErr result (IsSameDraft self.old self.new) }
-    {
-        match line {
-            Line::Head => {
-                self.place = Place::AfterHead;
-                Ok(())
-            }
-            Line::Mode(_) => {
-                self.place = Place::AfterMode;
-                Ok(())
-            }
-            Line::Ranks(count) => {
-                self.ranks = count;
-                self.place = Place::AfterRanks;
-                Ok(())
-            }
-            Line::Tile(tile) => self.add_tile(tile),
-            Line::Shape(rank, shape) => self.add_shape(rank, shape),
-            Line::End => {
-                self.place = Place::AfterEnd;
-                Ok(())
-            }
-        }
-    }
-
-    fn add_tile(&mut self, tile: Tile) -> Result<(), NoMemory>
-        requires lawful { IsLawfulAt self.old.place self.old.ranks (Line.Tile tile) }
-        requires place { HasPlace self.old.place self.old.ranks self.old.tiles.items self.old.shapes.items }
-        ensures draft { OnOk result ((before : List Said) → IsDraft before self.old.place self.old.ranks self.old.tiles.items self.old.shapes.items → IsDraft (said_of (Line.Tile tile) ∷ before) self.new.place self.new.ranks self.new.tiles.items self.new.shapes.items) }
-        ensures place { OnOk result (HasPlace self.new.place self.new.ranks self.new.tiles.items self.new.shapes.items) }
-        ensures kept { OnErr result (IsSameDraft self.old self.new) }
-    {
-        self.tiles.push(tile)?;
-        self.place = Place::InBody;
-        Ok(())
-    }
-
-    fn add_shape(&mut self, rank: Rank, shape: Shape) -> Result<(), NoMemory>
-        requires lawful { IsLawfulAt self.old.place self.old.ranks (Line.Shape rank shape) }
-        requires place { HasPlace self.old.place self.old.ranks self.old.tiles.items self.old.shapes.items }
-        ensures draft { OnOk result ((before : List Said) → IsDraft before self.old.place self.old.ranks self.old.tiles.items self.old.shapes.items → IsDraft (said_of (Line.Shape rank shape) ∷ before) self.new.place self.new.ranks self.new.tiles.items self.new.shapes.items) }
-        ensures place { OnOk result (HasPlace self.new.place self.new.ranks self.new.tiles.items self.new.shapes.items) }
-        ensures kept { OnErr result (IsSameDraft self.old self.new) }
-    {
-        self.shapes.push((rank, shape))?;
-        Ok(())
-    }
-}
-
-/// The scene of a text, or the fault that refuses it. Each line of the text has to be the one that may
-/// stand there: `icet-scene 1`, `mode depth`, `ranks P`, one `tile`, any number of `point`s, `end`.
+/// The scene of a text, or the fault that refuses it: `TooLong` before all, then the first faulty line's first
+/// fault, then what is missing at the end, then `TooLarge`.
 pub fn read(alloc: Global, bytes: &[u8]) -> Result<Scene, SceneFault>
     ensures reading { IsReading result (text_is bytes.now) }
     ensures too_long { MAX_SCENE_BYTES < length bytes.now → result ≡ Err SceneFault.TooLong }
@@ -110,6 +37,7 @@ pub fn read(alloc: Global, bytes: &[u8]) -> Result<Scene, SceneFault>
 }
 
 /// The scene of the lines of a text that isn't too long.
+#[tactic(auto, using(crate::proofs::Ends::read_on, crate::proofs::Ends::read_faulty))]
 fn read_lines(alloc: Global, bytes: &[u8]) -> Result<Scene, SceneFault>
     requires { length bytes.now ≤ MAX_SCENE_BYTES }
     ensures { IsReading result (text_behind [] 1 (lines_of bytes.now)) }
@@ -119,68 +47,125 @@ fn read_lines(alloc: Global, bytes: &[u8]) -> Result<Scene, SceneFault>
     let mut number = 1u32;
     while at < bytes.len() {
         let (line, next) = line_at(bytes, at);
-        match line_behind(draft.place, draft.ranks, line) {
-            None => return Err(SceneFault::NotBuilt(number)),
-            Some(said) => draft.add(said)?,
+        if let Err(fault) = take_line(alloc, &mut draft, line) {
+            return Err(fault.at(number));
         }
         at = next;
         number += 1;
     }
-    finish(alloc, draft, number)
+    finish(alloc, draft)
 }
 
-/// The line that begins at a place, without its newline, and where the next one begins.
-fn line_at(bytes: &[u8], at: usize) -> (&[u8], usize)
-    requires { at < length bytes.now }
-    ensures lines { lines_of (drop at bytes.now) ≡ result.0.now ∷ lines_of (drop result.1 bytes.now) }
-    ensures later { at < result.1 }
-    ensures within { result.1 ≤ length bytes.now }
+/// Adds what a line says, where it isn't skipped.
+fn take_line(alloc: Global, draft: &mut Draft, line: &[u8]) -> Result<(), LineFault>
+    requires { HasPlace draft.old.place draft.old }
+    ensures place { OnOk result (HasPlace draft.new.place draft.new) }
+    ensures draft { OnOk result ((before : List Said) → IsDraft before draft.old → IsDraft (with_line (line_behind before line.now) before) draft.new) }
+    ensures well { OnOk result ((before : List Said) → IsDraft before draft.old → is_faulty (line_behind before line.now) ≡ false) }
+    ensures fault { IfErr result (λ fault. (before : List Said) → IsDraft before draft.old → IsFaultOf fault (line_behind before line.now)) }
 {
-    let rest = &bytes[at..];
-    match place_of(rest, b'\n') {
-        None => (rest, bytes.len()),
-        Some(end) => (&rest[..end], at + end + 1),
+    match read_line(alloc, draft, line) {
+        Err(fault) => Err(fault),
+        Ok(None) => Ok(()),
+        Ok(Some(said)) => {
+            draft.add(said)?;
+            Ok(())
+        }
     }
 }
 
-/// The scene that was read, where its last line was `end` and it isn't too large; `number` is that of
-/// the line behind the last.
-fn finish(alloc: Global, draft: Draft, number: u32) -> Result<Scene, SceneFault>
-    requires { HasPlace draft.place draft.ranks draft.tiles.items draft.shapes.items }
-    ensures { (before : List Said) → IsDraft before draft.place draft.ranks draft.tiles.items draft.shapes.items → IsReading result (ended before number) }
+/// The scene that was read, where nothing is missing and it isn't too large.
+#[tactic(auto, using(crate::proofs::Ends::ended_wants, crate::proofs::Ends::ended_sized, crate::proofs::Ends::ended_body))]
+fn finish(alloc: Global, draft: Draft) -> Result<Scene, SceneFault>
+    requires { HasPlace draft.place draft }
+    ensures { (before : List Said) → IsDraft before draft → IsReading result (ended before) }
 {
-    match draft.place {
-        Place::AfterEnd => sized(alloc, draft),
-        _ => Err(SceneFault::NotBuilt(number)),
+    match wanted(draft.place, draft.blends) {
+        Some(want) => Err(SceneFault::Missing(want)),
+        None => sized(alloc, draft),
     }
 }
 
 /// The scene, unless all images together are too large.
 fn sized(alloc: Global, draft: Draft) -> Result<Scene, SceneFault>
-    requires body { HasBody draft.ranks draft.tiles.items draft.shapes.items }
-    ensures { (before : List Said) → IsDraft before draft.place draft.ranks draft.tiles.items draft.shapes.items → IsReading result (sized (scene_in before)) }
+    requires { HasBody draft }
+    ensures { (before : List Said) → IsDraft before draft → IsReading result (sized (scene_in before)) }
 {
-    let area = draft.tiles[0].area;
-    if u64::from(draft.ranks) * (u64::from(area.w) * u64::from(area.h)) > MAX_RANK_PIXELS {
+    let pixels = tile_pixels(draft.tiles.as_slice());
+    if rank_pixels(draft.ranks, pixels) > MAX_RANK_PIXELS {
         return Err(SceneFault::TooLarge);
     }
-    let order = ascending(alloc, draft.ranks)?;
-    let background = match Fragment::new(0, 0, 0, 0, 0) {
-        Some(background) => background,
-        None => unreachable!(),
-    };
+    let wide = draft.maxval == WIDE_CHANNEL;
+    let order = order_of(alloc, draft.blends, draft.ranks, draft.order)?;
     Ok(Scene {
-        mode: Mode::Depth,
+        mode: mode_of(draft.blends, wide),
+        wide,
         ranks: draft.ranks,
-        background,
+        background: draft.background,
         order,
         layout: Layout::of(draft.tiles),
         shapes: Items::from_vec(draft.shapes),
     })
 }
 
+fn mode_of(blends: bool, wide: bool) -> Mode
+    ensures { result ≡ mode_of blends wide }
+{
+    match (blends, wide) {
+        (false, _) => Mode::Depth,
+        (true, false) => Mode::Blend,
+        (true, true) => Mode::WideBlend,
+    }
+}
+
+/// How many pixels the tiles have together.
+fn tile_pixels(tiles: &[Tile]) -> u64
+    requires few { length tiles.now ≤ MAX_TILES }
+    requires areas { All (λ tile. IsTileArea tile.area) tiles.now }
+    ensures sum { result ≡ sum_by (λ tile. tile.area.w * tile.area.h) (map tile_view tiles.now) }
+    ensures small { result ≤ 17179869184 }
+{
+    let mut pixels = 0u64;
+    for tile in tiles {
+        pixels += area_pixels(*tile);
+    }
+    pixels
+}
+
+fn area_pixels(tile: Tile) -> u64
+    requires { IsTileArea tile.area }
+    ensures value { result ≡ tile.area.w * tile.area.h }
+    ensures small { result ≤ 268435456 }
+{
+    u64::from(tile.area.w) * u64::from(tile.area.h)
+}
+
+/// How many pixels all ranks' images have together.
+fn rank_pixels(ranks: u32, pixels: u64) -> u64
+    requires ranks { ranks ≤ MAX_RANKS }
+    requires pixels { pixels ≤ 17179869184 }
+    ensures { result ≡ ranks * pixels }
+{
+    u64::from(ranks) * pixels
+}
+
+/// The order that was read where the scene blends, and the ranks ascending where it doesn't.
+fn order_of(
+    alloc: Global,
+    blends: bool,
+    ranks: u32,
+    order: Vec<Rank>,
+) -> Result<Items<Rank>, NoMemory>
+    ensures { IfOk result (λ all. all ≡ (if blends then order.items else range_with_len 0 ranks)) }
+{
+    if blends {
+        Ok(Items::from_vec(order))
+    } else {
+        ascending(alloc, ranks)
+    }
+}
+
 /// So many ranks, ascending.
-#[tactic(auto, using(crate::proofs::Ranges::range_more))]
 fn ascending(alloc: Global, ranks: u32) -> Result<Items<Rank>, NoMemory>
     ensures { IfOk result (λ order. order ≡ range_with_len 0 ranks) }
 {

@@ -13,10 +13,13 @@ use std::alloc::Global;
 use std::marker::Model;
 
 /// What the renderers of a display draw: the tiles, the ranks and each rank's shapes, in the order of
-/// the text. By depth the order is the ranks ascending.
+/// the text. The order holds each rank once, the front first; by depth it is the ranks ascending. The
+/// background has depth 0.
 #[derive(Drop)]
 pub struct Scene {
     pub mode: Mode,
+    /// Whether colour channels go up to 65,535, and not to 255.
+    pub wide: bool,
     pub ranks: u32,
     pub background: Fragment,
     pub order: Items<Rank>,
@@ -28,13 +31,13 @@ impl Model for Scene {
     ghost use Rattle.std.specs.Prelude.{map};
     ghost use Rattle.icet_scene_model.specs.Scene.{SceneView};
     ghost use Rattle.icet_scene.specs.Lines.{placed_of};
-    ghost use Rattle.icet_scene.specs.Scenes.{IsScene};
+    ghost use Rattle.icet_scene.specs.Scenes.{IsLawfulScene, AreShapes};
 
     ghost Value = { SceneView };
 
-    ghost view = { λ s. record { mode = s.mode; ranks = s.ranks; background = s.background; order = s.order; tiles = s.layout; shapes = map placed_of s.shapes } };
+    ghost view = { λ s. record { mode = s.mode; wide = s.wide; ranks = s.ranks; background = s.background; order = s.order; tiles = s.layout; shapes = map placed_of s.shapes } };
 
-    ghost invariant = { λ s. IsScene s.ranks s.order s.layout s.shapes };
+    ghost invariant = { λ s. IsLawfulScene (record { mode = s.mode; wide = s.wide; ranks = s.ranks; background = s.background; order = s.order; tiles = s.layout; shapes = map placed_of s.shapes }) × AreShapes s.ranks s.shapes };
 }
 
 impl Scene {

@@ -1,19 +1,15 @@
 -- Small scenes for the examples of the definitions.
-use Rattle.std.specs.Prelude.{ℕ, ℤ, pos, negsuc, List, [], ◌∷◌, ◌++◌, Option, Some, None, codes}
-use Rattle.icet_model.specs.declared.names.Mode.TheVariants.{Depth, Blend}
+use Rattle.std.specs.Prelude.{ℕ, ℤ, pos, negsuc, List, [], ◌∷◌, ◌++◌, Option, Some, None, codes, false, true, take}
+use Rattle.icet_model.specs.declared.names.Mode.TheVariants.{Depth, Blend, WideBlend}
+use Rattle.icet_model.specs.declared.bracket.Bracket.{Bracket}
+use Rattle.icet_model.specs.declared.bracket.Bracket.TheVariants.{Leaf, Pair}
 use Rattle.icet_model.specs.Pixel.{FragmentView, Pixel}
 use Rattle.icet_model.specs.Tiles.{Area, TileView}
 use Rattle.icet_model.specs.declared.names.Rect.{Rect}
 use Rattle.icet_model.specs.Examples.{grey, red}
-use Rattle.icet_scene_model.specs.Raster.{Drawing, Point}
+use Rattle.icet_scene_model.specs.Raster.{Drawing, Point, Span, Tri}
 use Rattle.icet_scene_model.specs.Triangles.{Corner, Triangle}
-use Rattle.icet_scene_model.specs.Words.{Job, Command, command_of}
-use Rattle.icet_scene_model.specs.Lines.{words_of}
-use Rattle.icet_scene_model.specs.Scene.{SceneView, Placed}
-
--- the background of a scene
-abbrev pub clear : FragmentView
-clear = record { r = 0; g = 0; b = 0; a = 0; z = 0 }
+use Rattle.icet_scene_model.specs.Scene.{SceneView, Placed, clear}
 
 abbrev pub grey_point : ℕ → ℕ → ℕ → ℕ → ℕ → Placed
 grey_point rank x y level z = record { rank = rank; shape = Point x y (grey level z) }
@@ -28,6 +24,7 @@ one_point_text = codes "icet-scene 1\nmode depth\nranks 1\ntile 0 0 1 1 0\npoint
 abbrev pub one_point : SceneView
 one_point = record {
   mode = Depth;
+  wide = false;
   ranks = 1;
   background = clear;
   order = 0 ∷ [];
@@ -42,12 +39,17 @@ tie_text = codes "icet-scene 1\nmode depth\nranks 2\ntile 0 0 1 1 0\npoint 1 0 0
 abbrev pub tie : SceneView
 tie = record {
   mode = Depth;
+  wide = false;
   ranks = 2;
   background = clear;
   order = 0 ∷ 1 ∷ [];
   tiles = tile 0 0 1 1 0 ∷ [];
   shapes = grey_point 1 0 0 2 7 ∷ grey_point 0 0 0 1 7 ∷ [];
 }
+
+-- rank 0 joined in front of rank 1
+abbrev pub tie_bracket : Bracket
+tie_bracket = Pair (Leaf 0) (Leaf 1)
 
 -- a text by depth, and one with a rank and a tile of one pixel, from what follows
 abbrev pub depth_text : List ℕ → List ℕ
@@ -56,8 +58,79 @@ depth_text rest = codes "icet-scene 1\nmode depth\n" ++ rest
 abbrev pub one_tile_text : List ℕ → List ℕ
 one_tile_text rest = depth_text (codes "ranks 1\ntile 0 0 1 1 0\n" ++ rest)
 
-abbrev pub command : Job → ℕ → List ℕ → Command
-command job cap schedule = record { job = job; cap = cap; schedule = schedule }
+-- the text of a scene of version 2, from what follows
+abbrev pub second_text : List ℕ → List ℕ
+second_text rest = codes "icet-scene 2\n" ++ rest
+
+-- a point of one colour on a tile of one pixel, in a line of version 1
+abbrev pub point_text : List ℕ → List ℕ
+point_text numbers = one_tile_text (codes "point 0 0 0 " ++ (numbers ++ codes "\nend\n"))
+
+-- three spans of two ranks, in lines of version 2
+abbrev pub spans_text : List ℕ
+spans_text = codes "mode depth\nranks 2\ntile 0 0 2 2 0\nspan 0 0 0 5 10 20 30 255\nspan 1 1 0 5 40 50 60 255\nspan 1 0 1 5 40 50 60 255 5 40 50 60 255\nend\n"
+
+abbrev pub paint : ℕ → ℕ → ℕ → ℕ → FragmentView
+paint r g b z = record { r = r; g = g; b = b; a = 255; z = z }
+
+abbrev pub span : ℕ → ℕ → ℕ → List FragmentView → Placed
+span rank x y paints = record { rank = rank; shape = Span x y paints }
+
+abbrev pub spans : SceneView
+spans = record {
+  mode = Depth;
+  wide = false;
+  ranks = 2;
+  background = clear;
+  order = 0 ∷ 1 ∷ [];
+  tiles = tile 0 0 2 2 0 ∷ [];
+  shapes = span 0 0 0 (paint 10 20 30 5 ∷ []) ∷ span 1 1 0 (paint 40 50 60 5 ∷ []) ∷ span 1 0 1 (paint 40 50 60 5 ∷ paint 40 50 60 5 ∷ []) ∷ [];
+}
+
+-- two ranks that blend, with channels of 16 bits
+abbrev pub wide_text : List ℕ
+wide_text = codes "icet-scene 2\nmode blend\nranks 2\nmaxval 65535\norder 1 0\ntile 0 0 1 1 0\npoint 0 0 0 0 0 0 0 32768\npoint 1 0 0 0 100 0 0 65535\nend\n"
+
+abbrev pub deep_red : ℕ → ℕ → FragmentView
+deep_red level alpha = record { r = level; g = 0; b = 0; a = alpha; z = 0 }
+
+abbrev pub wide_reds : SceneView
+wide_reds = record {
+  mode = WideBlend;
+  wide = true;
+  ranks = 2;
+  background = clear;
+  order = 1 ∷ 0 ∷ [];
+  tiles = tile 0 0 1 1 0 ∷ [];
+  shapes = record { rank = 0; shape = Point 0 0 (deep_red 0 32768) } ∷ record { rank = 1; shape = Point 0 0 (deep_red 100 65535) } ∷ [];
+}
+
+-- an opaque red of this level at this depth
+abbrev pub opaque_red : ℕ → ℕ → FragmentView
+opaque_red level z = record (red level 255) { z = z }
+
+-- a corner of that paint, at a spot in sixteenths of a pixel
+abbrev pub corner : ℕ → ℕ → ℕ → ℕ → Corner
+corner x y level z = record { spot = record { x = pos x; y = pos y }; paint = opaque_red level z }
+
+-- a triangle behind a background, a comment and an empty line
+abbrev pub tri_text : List ℕ
+tri_text = codes "# one triangle\nicet-scene 1\nmode depth\n\nranks 1\nbackground 1 2 3 4\ntile 0 0 2 2 0\ntri 0 0 0 5 1 0 0 255 32 0 5 1 0 0 255 -1 32 5 1 0 0 255\nend"
+
+abbrev pub one_triangle : SceneView
+one_triangle = record {
+  mode = Depth;
+  wide = false;
+  ranks = 1;
+  background = record { r = 1; g = 2; b = 3; a = 4; z = 0 };
+  order = 0 ∷ [];
+  tiles = tile 0 0 2 2 0 ∷ [];
+  shapes = record { rank = 0; shape = Tri (record { a = corner 0 0 1 5; b = corner 32 0 1 5; c = record { spot = record { x = negsuc 0; y = pos 32 }; paint = opaque_red 1 5 } }) } ∷ [];
+}
+
+-- the first bytes of the text of one point
+abbrev pub cut_text : ℕ → List ℕ
+cut_text count = take count one_point_text
 
 abbrev pub header_text : List ℕ
 header_text = codes "P7\nWIDTH 1920\nHEIGHT 1080\nDEPTH 4\nMAXVAL 255\nTUPLTYPE RGB_ALPHA\nENDHDR\n"
@@ -87,13 +160,6 @@ rect corner w h = beside corner corner w h
 abbrev pub four_boxes : List (Option Rect)
 four_boxes = Some (beside (pos 3) (pos 0) 1 1) ∷ None ∷ Some (beside (pos 0) (pos 0) 4 1) ∷ Some (beside (pos 4) (pos 0) 1 1) ∷ []
 
--- the command of a line of words
-abbrev pub of_words : List ℕ → Option Command
-of_words line = command_of (words_of line)
-
-abbrev pub replay_words : List ℕ
-replay_words = codes "replay --strategy direct --cap 1 --schedule 0,63,0"
-
 abbrev pub diagonal_pixels : List Pixel
 diagonal_pixels = None ∷ Some (grey 1 7) ∷ Some (grey 2 7) ∷ None ∷ []
 
@@ -101,20 +167,13 @@ diagonal_pixels = None ∷ Some (grey 1 7) ∷ Some (grey 2 7) ∷ None ∷ []
 abbrev pub reds : SceneView
 reds = record {
   mode = Blend;
+  wide = false;
   ranks = 4;
   background = clear;
   order = 0 ∷ 1 ∷ 2 ∷ 3 ∷ [];
   tiles = tile 0 0 1 1 0 ∷ [];
   shapes = record { rank = 1; shape = Point 0 0 (red 0 128) } ∷ record { rank = 2; shape = Point 0 0 (red 1 128) } ∷ record { rank = 3; shape = Point 0 0 (red 100 255) } ∷ [];
 }
-
--- an opaque red of this level at this depth
-abbrev pub opaque_red : ℕ → ℕ → FragmentView
-opaque_red level z = record (red level 255) { z = z }
-
--- a corner of that paint, at a spot in sixteenths of a pixel
-abbrev pub corner : ℕ → ℕ → ℕ → ℕ → Corner
-corner x y level z = record { spot = record { x = pos x; y = pos y }; paint = opaque_red level z }
 
 -- two by two pixels
 abbrev pub square : Area
@@ -151,6 +210,3 @@ flat_triangle = record { a = corner 0 0 1 5; b = corner 16 16 1 5; c = corner 32
 
 abbrev pub two_greys : List FragmentView
 two_greys = grey 1 7 ∷ grey 2 7 ∷ []
-
-abbrev pub schedule_words : List ℕ
-schedule_words = codes "replay --strategy direct --schedule 7"

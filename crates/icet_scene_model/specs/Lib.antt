@@ -1,11 +1,11 @@
 pub mod Boxes
 pub mod Examples
 pub mod FaultLines
+pub mod Fields
 pub mod Jobs
-pub mod Lines
-pub mod Numeral
 pub mod Picture
 pub mod Raster
 pub mod Scene
+pub mod SceneLines
+pub mod Texts
 pub mod Triangles
-pub mod Words

@@ -1,2 +1,4 @@
-pub mod Padding
-pub mod Pieces
+pub mod Equality
+pub mod Form
+pub mod Growing
+pub mod Walking

@@ -1,34 +1,34 @@
-ghost use Rattle.std.specs.Prelude.{◌≡◌, ℕ, List, ◌+◌, ◌-◌, ◌*◌, ◌<◌, ◌≤◌, ◌^◌, ◌++◌, IfOk, OnOk, OnErr, None, length, take, drop, get_or, replicate};
-ghost use Rattle.icet_model.specs.Run.{Piece};
-ghost use Rattle.icet_sparse.specs.Sparse.{padded, IsPiece};
+ghost use Rattle.std.specs.Prelude.{◌≡◌, ℕ, List, ◌+◌, ◌-◌, ◌*◌, ◌<◌, ◌≤◌, ◌^◌, ◌++◌, ◌↔◌, IfOk, OnOk, OnErr, IsTrue, None, length, take, drop, get_or, replicate};
+ghost use Rattle.icet_sparse.specs.Sparse.{IsPiece};
+ghost use Rattle.icet_sparse.specs.Runs.{weight_of};
 
+use crate::strip::Strip;
+use crate::walk::Walk;
 use icet_base::NoMemory;
 use icet_pixel::Pixel;
 use std::alloc::Global;
 use std::marker::Model;
 
-/// The pixels of the positions from `lo` up to `hi`, not included, of a tile.
-///
-/// Inside stand the pixels from `lo` on; those behind the list's end are None.
+/// The pixels of the positions from `lo` up to `hi`, not included, of a tile, kept as runs.
 #[derive(Drop)]
 pub struct Sparse {
     tile: u32,
     lo: u32,
     hi: u32,
-    pixels: Vec<Pixel>,
+    pixels: Strip,
 }
 
 impl Model for Sparse {
     ghost use Rattle.std.specs.Prelude.{List};
     ghost use Rattle.icet_model.specs.Pixel.{Pixel};
     ghost use Rattle.icet_model.specs.Run.{Piece};
-    ghost use Rattle.icet_sparse.specs.Sparse.{piece_of, IsStored};
+    ghost use Rattle.icet_sparse.specs.Sparse.{IsPiece};
 
     ghost Value = { Piece (List Pixel) };
 
-    ghost view = { λ s. piece_of s.tile s.lo s.hi s.pixels.items };
+    ghost view = { λ s. record { tile = s.tile; lo = s.lo; hi = s.hi; content = s.pixels } };
 
-    ghost invariant = { λ s. IsStored s.tile s.lo s.hi s.pixels.items };
+    ghost invariant = { λ s. IsPiece (record { tile = s.tile; lo = s.lo; hi = s.hi; content = s.pixels }) };
 }
 
 impl Sparse {
@@ -37,17 +37,15 @@ impl Sparse {
         requires { length cells.now < 2 ^ 32 }
         ensures { IfOk result (λ s. s ≡ record { tile = tile; lo = 0; hi = length cells.now; content = cells.now }) }
     {
-        let pixels = Vec::from_slice(alloc, cells)?;
-        Ok(Sparse::from_pixels(tile, 0, cells.len() as u32, pixels))
+        let pixels = Strip::of(alloc, cells)?;
+        Ok(Sparse::from_strip(tile, 0, cells.len() as u32, pixels))
     }
 
-    /// The piece of these pixels from `lo` on, and None at the positions behind the last. Condition:
-    /// there are at most as many as positions.
-    #[tactic(auto, using(crate::proofs::Padding::stored))]
-    pub fn from_pixels(tile: u32, lo: u32, hi: u32, pixels: Vec<Pixel>) -> Sparse
-        requires { lo + length pixels.items ≤ hi }
-        ensures value { result ≡ record { tile = tile; lo = lo; hi = hi; content = padded (hi - lo) pixels.items } }
-        ensures whole { length pixels.items ≡ hi - lo → result ≡ record { tile = tile; lo = lo; hi = hi; content = pixels.items } }
+    /// The piece with these pixels. Condition: there are as many as positions.
+    pub fn from_strip(tile: u32, lo: u32, hi: u32, pixels: Strip) -> Sparse
+        requires ordered { lo ≤ hi }
+        requires size { length pixels ≡ hi - lo }
+        ensures { result ≡ record { tile = tile; lo = lo; hi = hi; content = pixels } }
     {
         Sparse {
             tile,
@@ -62,7 +60,7 @@ impl Sparse {
         requires { lo ≤ hi }
         ensures { result ≡ record { tile = tile; lo = lo; hi = hi; content = replicate (hi - lo) None } }
     {
-        Sparse::from_pixels(tile, lo, hi, Vec::new(alloc))
+        Sparse::from_strip(tile, lo, hi, Strip::blank(alloc, hi - lo))
     }
 
     /// The number of the tile.
@@ -89,30 +87,49 @@ impl Sparse {
         self.hi
     }
 
-    /// The pixel at a position. Condition: `i` is one of the piece's.
+    /// A walk over the pixels, run by run.
+    pub fn walk(&self) -> Walk<'_>
+        ensures value { result ≡ self.now.content }
+        ensures known { IsPiece self.now }
+    {
+        self.pixels.walk()
+    }
+
+    /// The pixel at a position; it walks over the runs before. Condition: `i` is one of the piece's.
     pub fn get(&self, i: u32) -> Pixel
         requires lo { self.now.lo ≤ i }
         requires hi { i < self.now.hi }
         ensures { result ≡ get_or self.now.content (i - self.now.lo) None }
     {
-        pixel_at(self.pixels.as_slice(), (i - self.lo) as usize)
+        let mut walk = self.walk();
+        walk.skip(i - self.lo());
+        walk.next_pixel()
     }
 
-    /// The pixels from `lo` on; those of the positions behind the last of them are None.
-    pub fn pixels(&self) -> &[Pixel]
-        ensures value { self.now.content ≡ padded (self.now.hi - self.now.lo) result.now }
-        ensures within { self.now.lo + length result.now ≤ self.now.hi }
-        ensures known { IsPiece self.now }
+    /// 8 for each maximal run of drawn pixels, and 8 for each drawn pixel.
+    pub fn weight(&self) -> u64
+        ensures { result ≡ weight_of self.now.content }
     {
-        self.pixels.as_slice()
+        self.pixels.weight()
+    }
+
+    /// Whether both have the same tile, positions and pixels; it compares runs and fragments, and takes
+    /// no memory.
+    pub fn same(&self, other: &Sparse) -> bool
+        ensures { IsTrue result ↔ (self.now ≡ other.now) }
+    {
+        self.tile == other.tile
+            && self.lo == other.lo
+            && self.hi == other.hi
+            && self.pixels.same(&other.pixels)
     }
 
     /// An equal piece.
     pub fn copy(&self, alloc: Global) -> Result<Sparse, NoMemory>
         ensures { IfOk result (λ s. s ≡ self.now) }
     {
-        let pixels = Vec::from_slice(alloc, self.pixels.as_slice())?;
-        Ok(Sparse::from_pixels(self.tile, self.lo, self.hi, pixels))
+        let pixels = self.pixels.copy(alloc)?;
+        Ok(Sparse::from_strip(self.tile, self.lo, self.hi, pixels))
     }
 
     /// The piece of the positions from `lo` up to `hi`. Condition: they are some of this piece's.
@@ -122,13 +139,11 @@ impl Sparse {
         requires hi { hi ≤ self.now.hi }
         ensures { IfOk result (λ s. s ≡ record { tile = self.now.tile; lo = lo; hi = hi; content = take (hi - lo) (drop (lo - self.now.lo) self.now.content) }) }
     {
-        let pixels = window(
-            alloc,
-            self.pixels.as_slice(),
-            (lo - self.lo) as usize,
-            (hi - lo) as usize,
-        )?;
-        Ok(Sparse::from_pixels(self.tile, lo, hi, pixels))
+        let mut walk = self.walk();
+        walk.skip(lo - self.lo());
+        let mut pixels = Strip::new(alloc);
+        pixels.append(&mut walk, hi - lo)?;
+        Ok(Sparse::from_strip(self.tile(), lo, hi, pixels))
     }
 
     /// Cuts the piece at a position: it keeps what is below, and the answer is what is above.
@@ -140,16 +155,9 @@ impl Sparse {
         ensures lower { OnOk result (self.new ≡ record { tile = self.old.tile; lo = self.old.lo; hi = at; content = take (at - self.old.lo) self.old.content }) }
         ensures same { OnErr result (self.new ≡ self.old) }
     {
-        let below = (at - self.lo) as usize;
-        let pixels = window(
-            alloc,
-            self.pixels.as_slice(),
-            below,
-            (self.hi - at) as usize,
-        )?;
-        let upper = Sparse::from_pixels(self.tile, at, self.hi, pixels);
-        self.pixels.truncate(below);
-        self.hi = at;
+        let upper = self.part(alloc, at, self.hi())?;
+        let lower = self.part(alloc, self.lo(), at)?;
+        *self = lower;
         Ok(upper)
     }
 
@@ -160,53 +168,9 @@ impl Sparse {
         requires meet { front.now.hi ≡ back.now.lo }
         ensures { IfOk result (λ s. s ≡ record { tile = front.now.tile; lo = front.now.lo; hi = back.now.hi; content = front.now.content ++ back.now.content }) }
     {
-        let below = (front.hi - front.lo) as usize;
-        let pixels = joined_at(
-            alloc,
-            front.pixels.as_slice(),
-            below,
-            back.pixels.as_slice(),
-        )?;
-        Ok(Sparse::from_pixels(front.tile, front.lo, back.hi, pixels))
+        let mut pixels = Strip::new(alloc);
+        pixels.append(&mut front.walk(), front.hi() - front.lo())?;
+        pixels.append(&mut back.walk(), back.hi() - back.lo())?;
+        Ok(Sparse::from_strip(front.tile(), front.lo(), back.hi(), pixels))
     }
-}
-
-/// The pixel at a place, None behind the list's end.
-fn pixel_at(pixels: &[Pixel], at: usize) -> Pixel
-    ensures { result ≡ get_or pixels.now at None }
-{
-    if at < pixels.len() { pixels[at] } else { None }
-}
-
-/// At most `count` pixels from a place on, as far as there are some.
-fn window(
-    alloc: Global,
-    pixels: &[Pixel],
-    from: usize,
-    count: usize,
-) -> Result<Vec<Pixel>, NoMemory>
-    ensures value { IfOk result (λ v. v.items ≡ take count (drop from pixels.now)) }
-    ensures most { IfOk result (λ v. length v.items ≤ count) }
-{
-    let from = from.min(pixels.len());
-    let count = count.min(pixels.len() - from);
-    Ok(Vec::from_slice(alloc, &pixels[from..from + count])?)
-}
-
-/// The front pixels, filled up to `below` with None, and then the back ones.
-#[tactic(auto, using(crate::proofs::Padding::padded_filled))]
-fn joined_at(
-    alloc: Global,
-    front: &[Pixel],
-    below: usize,
-    back: &[Pixel],
-) -> Result<Vec<Pixel>, NoMemory>
-    requires { length front.now ≤ below }
-    ensures value { IfOk result (λ v. v.items ≡ padded below front.now ++ back.now) }
-    ensures size { IfOk result (λ v. length v.items ≡ below + length back.now) }
-{
-    let mut all = Vec::from_slice(alloc, front)?;
-    all.resize(below, None)?;
-    all.extend_from_slice(back)?;
-    Ok(all)
 }

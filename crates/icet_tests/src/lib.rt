@@ -9,6 +9,7 @@ mod bytes;
 pub mod drawing;
 #[cfg(test)]
 mod gates;
+pub mod meeting;
 #[cfg(test)]
 mod nets;
 #[cfg(test)]

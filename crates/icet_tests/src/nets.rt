@@ -3,6 +3,7 @@ ghost use Rattle.std.specs.Prelude.{◌≡◌, ◌<◌, ◌≤◌, [], ◌∷◌
 ghost use Rattle.icet_net.specs.Ranks.{AreHulls, AreWholeImages};
 
 use crate::gates::CountingGate;
+use crate::meeting::MeetingGate;
 use crate::samples::two_swappers;
 use icet_base::{Gate, Mode, NoMemory, Rank, Rect};
 use icet_net::{Hull, Image, RankMachine, Unfinished, close_net, drive, open_net, turn};
@@ -144,5 +145,25 @@ fn a_turn_enters_once_for_each_rank(rt: HostRuntime) {
     for workers in 1..4 {
         let holds = enters_once(&rt, rt.alloc(), workers);
         assert!(rt; matches!(holds, Ok(true)), "{workers} workers");
+    }
+}
+
+/// Whether the two ranks of a net met in the gate in one turn of so many workers.
+fn meets<R: Threads + Sync>(rt: &R, alloc: Global, workers: u32) -> Result<bool, NoMemory>
+    requires { 1 ≤ workers }
+{
+    let blank = [[None, None], [None, None]];
+    let (_hull, mut ranks) = open(alloc, &blank, &mut MemWires::new(alloc))?;
+    let gate = MeetingGate::new();
+    turn(rt, &mut ranks, workers, 1, &gate)?;
+    Ok(gate.have_met())
+}
+
+// Whoever steps the ranks one after the other waits in vain.
+#[test]
+fn workers_step_ranks_at_the_same_time(rt: HostRuntime) {
+    for workers in 2..4 {
+        let met = meets(&rt, rt.alloc(), workers);
+        assert_eq!(rt; met, Ok(true), "{workers} workers");
     }
 }

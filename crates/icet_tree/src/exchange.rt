@@ -7,6 +7,7 @@ ghost use Rattle.icet_legs.specs.Task.{IsTask, StandsIn, task_team};
 ghost use Rattle.icet_legs.specs.Team.{team_of};
 ghost use Rattle.icet_tree.specs.Ranges.{AreTreeRanges};
 ghost use Rattle.icet_tree.specs.Tree.{gives, takes, tree_ops, tree_program, tree_strategy, tree_programs, tree_rounds};
+ghost use Rattle.icet_model.specs.declared.limits.TheConstants.{MAX_RANKS};
 
 use icet_base::{NoMemory, Rank};
 use icet_legs::brackets::{copies, tree};
@@ -34,7 +35,7 @@ pub fn exchange_plan(
     first_round: u32,
 ) -> Result<Leg, NoMemory>
     requires distinct { AllPairs (λ a b. a ≢ b) participants.now }
-    requires low { length participants.now ≤ 256 }
+    requires low { length participants.now ≤ MAX_RANKS }
     requires leaves { length leaves.now ≡ length participants.now }
     requires display { StandsIn participants.now display }
     requires small { pixels < 2 ^ 31 }
@@ -160,7 +161,7 @@ fn push_round(ops: &mut Vec<Op>, task: &Task, i: u32, p: u32) -> Result<(), NoMe
 // whether the participant at position p takes from the one at w behind it
 fn takes(task: &Task, w: u32, p: u32) -> bool
     requires wide { 0 < w }
-    requires low { w ≤ 256 }
+    requires low { w ≤ MAX_RANKS }
     requires place { p < length task.now.participants }
     ensures takes { result ≡ takes (length task.now.participants) w p }
     ensures within { IsTrue result → p + w < length task.now.participants }
@@ -173,7 +174,7 @@ fn takes(task: &Task, w: u32, p: u32) -> bool
 // whether the participant at position p gives to the one at w before it
 fn gives(task: &Task, w: u32, p: u32) -> bool
     requires wide { 0 < w }
-    requires low { w ≤ 256 }
+    requires low { w ≤ MAX_RANKS }
     requires place { p < length task.now.participants }
     ensures gives { result ≡ gives (length task.now.participants) w p }
     ensures behind { IsTrue result → w ≤ p }

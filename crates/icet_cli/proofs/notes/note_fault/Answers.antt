@@ -6,14 +6,8 @@ returns-in-Words g c = rw c.in-Words.is c.note.ensures
 pub returns-in-Read : goal.returns-in-Read
 returns-in-Read g c = rw c.in-Read.is c.note-in-Read.ensures
 
-pub returns-in-TooLong : goal.returns-in-TooLong
-returns-in-TooLong g c = rw c.in-TooLong.is c.note-in-TooLong.ensures
-
-pub returns-in-NotBuilt : goal.returns-in-NotBuilt
-returns-in-NotBuilt g c = rw c.in-NotBuilt.is c.note_line.ensures
-
-pub returns-in-TooLarge : goal.returns-in-TooLarge
-returns-in-TooLarge g c = rw c.in-TooLarge.is c.note-in-TooLarge.ensures
+pub returns-in-Scene : goal.returns-in-Scene
+returns-in-Scene g c = rw c.in-Scene.is c.note_scene.ensures
 
 pub returns-in-Write : goal.returns-in-Write
 returns-in-Write g c = rw c.in-Write.is c.note-in-Write.ensures

@@ -6,7 +6,7 @@ use Rattle.icet_net.specs.Opening.{CanOpen, sides_of}
 use Rattle.icet_net.specs.Closing.{pictures_of}
 use Rattle.icet_jobs.specs.Nets.{piece_images}
 use Rattle.icet_jobs.specs.Composites.{rank_images}
-use Rattle.icet_jobs.proofs.SceneNets.{can_open}
+use Rattle.icet_jobs.proofs.SceneNets.{can_open, ordered}
 use Rattle.icet_jobs.proofs.ScenePictures.{shown}
 use Rattle.icet_jobs.proofs.SceneTraffic.{carried}
 use Rattle.icet_jobs.proofs.compositing.composite.Goals as goal
@@ -16,7 +16,7 @@ run_net-requires-clause-fits g c =
     let plan = c.in_ok-plan.plan in
     λ κs h. subst (λ images. CanOpen plan c.scene.inside.layout images) (sym c.in_ok-images.ensures)
     (subst (λ (v : SceneView). CanOpen plan v.tiles (rank_images c.args.scene.now)) (sym c.scene.view_is)
-    (can_open c.args.way.now.settings.strategy c.args.scene.now plan c.ranks-ranks.ensures.lawful c.in_ok-plan.ensures))
+    (can_open c.args.way.now.settings c.args.scene.now plan c.ranks-ranks.ensures.lawful (ordered c.args.scene.now c.ranks-ranks.ensures.lawful).once.count c.in_ok-plan.ensures))
 
 pub returns-clause-pictures : goal.returns-clause-pictures
 returns-clause-pictures g c =
@@ -25,7 +25,7 @@ returns-clause-pictures g c =
     c.in_ok-pictures.ensures.pictures
     ∙ ap (λ (v : SceneView). pictures_of (record { plan = plan; cap = way.cap; strands = way.strands; sides = map sides_of v.tiles; pairs = pairs_of plan }) v.mode (piece_images c.in_ok-images.images.items)) c.scene.view_is
     ∙ ap (λ images. pictures_of (record { plan = plan; cap = way.cap; strands = way.strands; sides = map sides_of c.args.scene.now.tiles; pairs = pairs_of plan }) c.args.scene.now.mode (piece_images images)) c.in_ok-images.ensures
-    ∙ shown way.settings.strategy c.args.scene.now plan way.cap way.strands (pairs_of plan) c.ranks-ranks.ensures.lawful.ascending c.in_ok-plan.ensures
+    ∙ shown way.settings c.args.scene.now plan way.cap way.strands (pairs_of plan) (ordered c.args.scene.now c.ranks-ranks.ensures.lawful) c.in_ok-plan.ensures
 
 pub returns-clause-log : goal.returns-clause-log
 returns-clause-log g c =
@@ -35,4 +35,4 @@ returns-clause-log g c =
     c.in_ok-pictures.ensures.log
     ∙ ap (λ (v : SceneView). before ++ traffic v.mode plan (piece_images c.in_ok-images.images.items)) c.scene.view_is
     ∙ ap (λ images. before ++ traffic c.args.scene.now.mode plan (piece_images images)) c.in_ok-images.ensures
-    ∙ ap (λ es. before ++ es) (carried way.settings.strategy c.args.scene.now plan c.in_ok-plan.ensures)
+    ∙ ap (λ es. before ++ es) (carried way.settings c.args.scene.now plan (ordered c.args.scene.now c.ranks-ranks.ensures.lawful).once.count c.in_ok-plan.ensures)

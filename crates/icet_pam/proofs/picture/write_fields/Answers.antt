@@ -1,5 +1,5 @@
 use Rattle.std.proofs.lemmas.Result.{err_from_is_err_and}
-use Rattle.icet_pam.proofs.PutPieces.{puts_failed}
+use Rattle.icet_base.proofs.GrowingBytes.{puts_failed}
 use Rattle.icet_pam.proofs.picture.write_fields.Goals as goal
 
 pub returns-in_err-put_number : goal.returns-in_err-put_number

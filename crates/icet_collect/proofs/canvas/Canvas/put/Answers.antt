@@ -1,5 +1,5 @@
-use Rattle.std.proofs.Common.{◌≡◌, ◌<◌, ◌*◌, false, true, get_or, subst, sym, ◌∙◌, length-set, arith}
-use Rattle.icet_collect.proofs.Positions.{left_in_set}
+use Rattle.std.proofs.Common.{◌≡◌, ◌<◌, ◌*◌, false, true, get_or, subst, sym, ◌∙◌, length-set, Some, arith}
+use Rattle.icet_collect.proofs.Positions.{left_in_set, still_blank}
 use Rattle.icet_collect.proofs.canvas.Canvas.put.Goals as goal
 
 pub overflow_sub-self : goal.overflow_sub-self
@@ -20,7 +20,8 @@ invariant_of-self c =
       canvas = record {
         most = c.self.invariant.canvas.most;
         places = length-set s.placed.items c.args.i true ∙ c.self.invariant.canvas.places;
-        size = length-set s.pixels.items c.args.i c.args.pixel ∙ c.self.invariant.canvas.size;
+        size = length-set s.pixels.items c.args.i (Some c.args.fragment) ∙ c.self.invariant.canvas.size;
       };
       count = omega arith;
+      blank_left = still_blank s.placed.items s.pixels.items c.args.i (Some c.args.fragment) (omega arith) c.self.invariant.blank_left;
     }

@@ -1,0 +1,2 @@
+pub mod Interlaced
+pub mod Places

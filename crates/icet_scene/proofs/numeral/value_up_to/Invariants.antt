@@ -1,6 +1,0 @@
-use Rattle.std.proofs.Common.{◌≡◌, ◌≤◌, take}
-use Rattle.icet_scene_model.specs.Numeral.{value_from}
-use Rattle.icet_scene.proofs.numeral.value_up_to.Given as goal
-
-abbrev pub invariant-loop-digit : goal.invariant-loop-digit
-invariant-loop-digit l = (l.value ≡ value_from 0 (take l.digit-index l.digits)) × (l.value ≤ l.most)

@@ -1,8 +1,0 @@
-use Rattle.icet_scene_model.proofs.Decimals.{number_of_decimal, decimal_of_number}
-use Rattle.icet_scene_model.proofs.laws.numerals_are_decimals.Goals as goal
-
-pub returns-clause-read : goal.returns-clause-read
-returns-clause-read c = number_of_decimal
-
-pub returns-clause-written : goal.returns-clause-written
-returns-clause-written c = decimal_of_number

@@ -1,0 +1,6 @@
+pub mod Counts
+pub mod Decimals
+pub mod Fields
+pub mod Sizes
+pub mod Splits
+pub mod Values

@@ -1,0 +1,14 @@
+-- The words that are left of a line.
+use Rattle.std.specs.Prelude.{ℕ, cond, List, [], length, Option, Some, None}
+use Rattle.std.specs.List.{list_all}
+use Rattle.icet_text.specs.Lines.{words_of}
+use Rattle.icet_text.specs.Numerals.{is_numeral}
+
+-- the words of what is left of a line; none where the line is at its end
+abbrev pub words_behind : Option (List ℕ) → List (List ℕ)
+words_behind None = []
+words_behind (Some rest) = words_of rest
+
+-- how many words there are, where each is a numeral
+abbrev pub counted : List (List ℕ) → Option ℕ
+counted words = cond (list_all is_numeral words) (Some (length words)) None
