@@ -34,3 +34,7 @@ EndsWith command text old new (Err (Scene fault)) = (text ≡ Refused fault) × 
 EndsWith command text old new (Err NoMemory) = new ≡ old
 EndsWith command text old new (Err Words) = ⊥
 EndsWith command text old new (Err Read) = ⊥
+
+-- a job over a scene that has been read: it leaves the wires' log, whatever that is
+abbrev pub SceneJobEnds : Command → SceneView → SinkView → SinkView → Result (Unit {0}) RunFault → Type 0
+SceneJobEnds command scene old new result = (log : List (PairTraffic (List Pixel))) → EndsWith command (SceneText scene) (shown old log) (shown new log) result

@@ -1,10 +1,8 @@
-ghost use Rattle.std.specs.Prelude.{◌≡◌, List};
-ghost use Rattle.icet_model.specs.Pixel.{Pixel};
-ghost use Rattle.icet_model.specs.Traffic.{PairTraffic};
+ghost use Rattle.std.specs.Prelude.{◌≡◌};
 ghost use Rattle.icet_scene_model.specs.Texts.{SceneText, text_is};
 ghost use Rattle.icet_words.specs.declared.job.Job.TheVariants.{Composite, Traffic, Plan, Replay};
 ghost use Rattle.icet_cli.specs.FaultNotes.{status_for};
-ghost use Rattle.icet_cli.specs.JobEndings.{EndsWith, shown};
+ghost use Rattle.icet_cli.specs.JobEndings.{EndsWith, SceneJobEnds, shown};
 ghost use Rattle.icet_cli.specs.Untouched.{LeavesOwed, LeavesSink, LeavesWires};
 
 use crate::run_fault::RunFault;
@@ -80,8 +78,7 @@ fn write_scene_traffic<K: Sink>(
     sink: &mut K,
 ) -> Result<(), RunFault>
     requires { command.now.job ≡ Traffic }
-    ensures ends { (log : List (PairTraffic (List Pixel))) → EndsWith command.now (SceneText scene.now)
-        (shown (K.told sink.old) log) (shown (K.told sink.new) log) result }
+    ensures ends { SceneJobEnds command.now scene.now (K.told sink.old) (K.told sink.new) result }
     ensures sink { LeavesSink (status_for result) sink.old sink.new }
 {
     let plan = plan_of(alloc, scene, &command.settings())?;
@@ -97,8 +94,7 @@ fn write_scene_plan<K: Sink>(
     sink: &mut K,
 ) -> Result<(), RunFault>
     requires { command.now.job ≡ Plan }
-    ensures ends { (log : List (PairTraffic (List Pixel))) → EndsWith command.now (SceneText scene.now)
-        (shown (K.told sink.old) log) (shown (K.told sink.new) log) result }
+    ensures ends { SceneJobEnds command.now scene.now (K.told sink.old) (K.told sink.new) result }
     ensures sink { LeavesSink (status_for result) sink.old sink.new }
 {
     let plan = plan_of(alloc, scene, &command.settings())?;
@@ -114,8 +110,7 @@ fn replay_scene<K: Sink>(
     sink: &mut K,
 ) -> Result<(), RunFault>
     requires { command.now.job ≡ Replay }
-    ensures ends { (log : List (PairTraffic (List Pixel))) → EndsWith command.now (SceneText scene.now)
-        (shown (K.told sink.old) log) (shown (K.told sink.new) log) result }
+    ensures ends { SceneJobEnds command.now scene.now (K.told sink.old) (K.told sink.new) result }
     ensures sink { LeavesSink (status_for result) sink.old sink.new }
 {
     let plan = plan_of(alloc, scene, &command.settings())?;

@@ -26,7 +26,7 @@ use Rattle.icet_multi.specs.Rules.{JoinsInOrder, RulesJoinInOrder, rule_by, stra
 use Rattle.icet_multi.proofs.Absent.{tile_leaves}
 
 -- the leaves of brackets, one list behind the other
-abbrev all_leaves : List Bracket → List ℕ
+abbrev pub all_leaves : List Bracket → List ℕ
 all_leaves [] = []
 all_leaves (x ∷ xs) = leaves x ++ all_leaves xs
 
@@ -126,17 +126,19 @@ listed_leaves : (order : List ℕ) → all_leaves (map (λ r. Leaf r) order) ≡
 listed_leaves [] = refl
 listed_leaves (r ∷ order) = ap (λ ls. r ∷ ls) (listed_leaves order)
 
--- over the ranks of an order each strategy for one tile joins them in this order
+-- over any brackets each strategy for one tile joins their leaves in order
+pub single_over : (single : Single) (k : ℕ) (xs : List Bracket) → leaves ((strategy_of single k).bracket xs) ≡ all_leaves xs
+single_over Tree k xs = tree_leaves xs
+single_over Bswap k xs = tree_leaves (couples (fold_count (length xs)) xs) ∙ couples_leaves (fold_count (length xs)) xs
+single_over Radixk k [] = refl
+single_over Radixk k (x ∷ xs) = radix_bracket_leaves k (x ∷ xs) (omega arith)
+
+-- and so it does over the ranks of an order
 pub single_joins : (single : Single) (k : ℕ) (order : List ℕ) → leaves ((strategy_of single k).bracket (map (λ r. Leaf r) order)) ≡ order
-single_joins Tree k order = tree_leaves (map (λ r. Leaf r) order) ∙ listed_leaves order
-single_joins Bswap k order =
-    let xs = map (λ r. Leaf r) order in
-    tree_leaves (couples (fold_count (length xs)) xs) ∙ couples_leaves (fold_count (length xs)) xs ∙ listed_leaves order
-single_joins Radixk k [] = refl
-single_joins Radixk k (r ∷ order) = radix_bracket_leaves k (map (λ r. Leaf r) (r ∷ order)) (omega arith) ∙ listed_leaves (r ∷ order)
+single_joins single k order = single_over single k (map (λ r. Leaf r) order) ∙ listed_leaves order
 
 -- the value at a place of a list that was made of another
-made_from : {X Y : Type 0} (f : X → Y) (xs : List X) (t : ℕ) (x : X) (y : Y) → slice_get xs t ≡ Some x → slice_get (map f xs) t ≡ Some y → y ≡ f x
+pub made_from : {X Y : Type 0} (f : X → Y) (xs : List X) (t : ℕ) (x : X) (y : Y) → slice_get xs t ≡ Some x → slice_get (map f xs) t ≡ Some y → y ≡ f x
 made_from f [] t x y e h = absurd (cc)
 made_from f (z ∷ xs) zero x y e h = (let a : f z ≡ y = cc in sym a) ∙ ap f (let b : z ≡ x = cc in b)
 made_from f (z ∷ xs) (suc t) x y e h = made_from f xs t x y e h

@@ -2,6 +2,7 @@
 -- tile, which folds them from the left. All is in round 0.
 use Rattle.std.specs.Prelude.{◌≡◌, ◌≢◌, ℕ, suc, ◌<◌, Bool, false, cond, ◌&&◌, ◌||◌, ◌==◌, not, List, [], ◌∷◌, ◌++◌, map, length, AllPairs}
 use Rattle.std.specs.List.{AllByRecursion, range_with_len}
+pub use Rattle.icet_groups.specs.Tiles.{TileView, has, IsTile, AreTiles}
 use Rattle.icet_model.specs.declared.bracket.Bracket.{Bracket}
 use Rattle.icet_model.specs.declared.bracket.Bracket.TheVariants.{Leaf}
 use Rattle.icet_model.specs.declared.exchange.Kind.TheVariants.{Send, Take}
@@ -13,17 +14,6 @@ use Rattle.icet_model.specs.Exchange.{of_rank}
 use Rattle.icet_model.specs.Run.{MessageView}
 use Rattle.icet_model.specs.Flow.{Messages}
 use Rattle.icet_model.specs.Plan.{PlanView, bracket_flow, plan_exchanges}
-
--- a tile: how many pixels it has, which rank shows it, and the ranks that contribute to it, in their order
-pub record TileView : Type 0 where
-  pub size : ℕ
-  pub display : ℕ
-  pub contributors : List ℕ
-
--- the number is one of the list
-abbrev pub has : ℕ → List ℕ → Bool
-has r [] = false
-has r (c ∷ cs) = (c == r) || has r cs
 
 -- rank q hands its image of the tile to the display
 abbrev pub hands_in : TileView → ℕ → Bool
@@ -112,17 +102,6 @@ showings t tiles r = by_tile (λ n x. showing n x r) t tiles
 
 abbrev pub direct_program : List TileView → ℕ → List Op
 direct_program tiles r = sendings 0 tiles r ++ showings 0 tiles r
-
--- the tile's ranks are ranks of the plan, and no contributor stands twice
-pub record IsTile (ranks : ℕ) (x : TileView) : Type 0 where
-  pub display : x.display < ranks
-  pub contributors : AllByRecursion (λ c. c < ranks) x.contributors
-  pub distinct : AllPairs (λ a b. a ≢ b) x.contributors
-
--- tiles of so many ranks, each shown by a rank of its own
-pub record AreTiles (ranks : ℕ) (tiles : List TileView) : Type 0 where
-  pub each : AllByRecursion (IsTile ranks) tiles
-  pub displays : AllPairs (λ x y. x.display ≢ y.display) tiles
 
 -- the plan of the direct strategy for these tiles
 pub record IsDirect (ranks : ℕ) (tiles : List TileView) (plan : PlanView) : Type 0 where

@@ -32,6 +32,10 @@ m from to round tile lo hi = from ∷ to ∷ round ∷ tile ∷ lo ∷ hi ∷ []
 abbrev pub from_rank : ℕ → List (List ℕ) → List (List ℕ)
 from_rank rank all = filter (λ l. get_or l 0 0 == rank) all
 
+-- two ranks, each of which displays one pixel
+abbrev pub pair_of_tiles : List TileView
+pair_of_tiles = tile 1 0 ∷ tile 1 1 ∷ []
+
 -- binary-swap of five ranks on a tile of seven pixels, and of three whose second displays four
 abbrev pub five_swap : List (List ℕ)
 five_swap = lines bswap_strategy 5 (tile 7 0 ∷ [])
@@ -40,8 +44,8 @@ abbrev pub three_swap : List (List ℕ)
 three_swap = lines bswap_strategy 3 (tile 4 1 ∷ [])
 
 -- radix-k of four ranks in one group
-abbrev pub four_by_four : List (List ℕ)
-four_by_four = lines (radix_strategy 4) 4 (tile 4 0 ∷ [])
+abbrev pub four_group : List (List ℕ)
+four_group = lines (radix_strategy 4) 4 (tile 4 0 ∷ [])
 
 -- what these ranks of eight hand in for a tile of three pixels in the last round of binary-swap
 abbrev pub collected_from : (ℕ → Bool) → List (List ℕ)

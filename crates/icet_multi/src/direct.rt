@@ -3,8 +3,9 @@ ghost use Rattle.std.specs.List.{range_with_len};
 ghost use Rattle.icet_multi.specs.Direct.{AreTiles, IsDirect, IsTile, TileView, direct_plan, direct_program, fetch, folds, sending, sendings, send_of, showing, showings, take_of, tile_bracket};
 ghost use Rattle.icet_model.specs.declared.limits.TheConstants.{MAX_RANKS, MAX_TILES};
 
-use crate::TileRanks;
+use crate::tile::{bracket_of, hands_in};
 use icet_base::{NoMemory, Rank};
+use icet_groups::TileRanks;
 use icet_plan::{Bracket, Exchange, Kind, Op, Plan, Program};
 use std::alloc::Global;
 
@@ -55,7 +56,7 @@ fn brackets_of(alloc: Global, tiles: &[TileRanks]) -> Result<Vec<Bracket>, NoMem
 {
     let mut all = Vec::new(alloc);
     for tile in tiles {
-        all.push(tile.bracket(alloc)?)?;
+        all.push(bracket_of(alloc, tile)?)?;
     }
     Ok(all)
 }
@@ -110,7 +111,7 @@ fn push_showings(ops: &mut Vec<Op>, rank: Rank, tiles: &[TileRanks]) -> Result<(
 fn push_sending(ops: &mut Vec<Op>, rank: Rank, t: u32, tile: &TileRanks) -> Result<(), NoMemory>
     ensures { IfOk result (λ _. ops.new.items ≡ ops.old.items ++ sending t tile.now rank) }
 {
-    if tile.hands_in(rank) {
+    if hands_in(tile, rank) {
         ops.push(Op::Load { tile: t, slot: 0 })?;
         ops.push(Op::Swap {
             exchange: whole(Kind::Send, tile.display(), t, tile.size()),

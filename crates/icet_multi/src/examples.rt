@@ -5,13 +5,13 @@ ghost use Rattle.icet_tree.specs.Tree.{tree_strategy};
 ghost use Rattle.icet_bswap.specs.Bswap.{bswap_strategy};
 ghost use Rattle.icet_radixk.specs.Factors.{factors};
 ghost use Rattle.icet_radixk.specs.Radixk.{radix_strategy};
-ghost use Rattle.icet_multi.specs.Samples.{collected_from, five_bracket, five_swap, four_bracket, four_by_four, from_rank, leaves, lines, m, six_bracket, three_swap, tile};
+ghost use Rattle.icet_multi.specs.Samples.{collected_from, five_bracket, five_swap, four_bracket, four_group, from_rank, leaves, lines, m, pair_of_tiles, six_bracket, three_swap, tile};
 
 /// The tree over three ranks, and over two ranks and two tiles: empty images are sent too, and the second tile's
 /// rounds begin where the first one's end.
 pub fn tree()
     ensures three { lines tree_strategy 3 (tile 2 2 ∷ []) ≡ m 0 2 2 0 0 2 ∷ m 1 0 0 0 0 2 ∷ m 2 0 1 0 0 2 ∷ [] }
-    ensures two_tiles { lines tree_strategy 2 (tile 1 0 ∷ tile 1 1 ∷ []) ≡ m 0 1 3 1 0 1 ∷ m 1 0 0 0 0 1 ∷ m 1 0 2 1 0 1 ∷ [] }
+    ensures two_tiles { lines tree_strategy 2 pair_of_tiles ≡ m 0 1 3 1 0 1 ∷ m 1 0 0 0 0 1 ∷ m 1 0 2 1 0 1 ∷ [] }
     ensures bracket { tree_strategy.bracket (leaves 4) ≡ Pair (Pair (Leaf 0) (Leaf 1)) (Pair (Leaf 2) (Leaf 3)) }
 {}
 
@@ -42,8 +42,8 @@ pub fn radix_k()
     ensures sixty_four { factors 8 64 ≡ 8 ∷ 8 ∷ [] }
     ensures twenty_two { factors 8 22 ≡ 2 ∷ 11 ∷ [] }
     ensures one { factors 8 1 ≡ [] }
-    ensures first { from_rank 0 four_by_four ≡ m 0 1 0 0 1 2 ∷ m 0 2 0 0 2 3 ∷ m 0 3 0 0 3 4 ∷ [] }
-    ensures second { from_rank 1 four_by_four ≡ m 1 0 0 0 0 1 ∷ m 1 0 1 0 1 2 ∷ m 1 2 0 0 2 3 ∷ m 1 3 0 0 3 4 ∷ [] }
+    ensures first { from_rank 0 four_group ≡ m 0 1 0 0 1 2 ∷ m 0 2 0 0 2 3 ∷ m 0 3 0 0 3 4 ∷ [] }
+    ensures second { from_rank 1 four_group ≡ m 1 0 0 0 0 1 ∷ m 1 0 1 0 1 2 ∷ m 1 2 0 0 2 3 ∷ m 1 3 0 0 3 4 ∷ [] }
     ensures bracket { (radix_strategy 4).bracket (leaves 4) ≡ four_bracket }
     ensures two_and_three { (radix_strategy 3).bracket (leaves 6) ≡ six_bracket }
 {}

@@ -9,6 +9,6 @@ pub mod sequential;
 pub mod settings;
 pub mod tile;
 
+pub use icet_groups::TileRanks;
 pub use planning::plan;
 pub use settings::{Settings, Single, Strategy};
-pub use tile::TileRanks;

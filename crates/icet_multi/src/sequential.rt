@@ -9,10 +9,10 @@ ghost use Rattle.icet_multi.specs.Sequential.{AreLegsOf, IsShown, IsTileLegOf};
 ghost use Rattle.icet_legs.specs.InRow.{tile_leg};
 ghost use Rattle.icet_model.specs.declared.limits.TheConstants.{MAX_RANKS, MAX_TILES};
 
-use crate::TileRanks;
 use crate::settings::Single;
 use crate::tile::leaves;
 use icet_base::{NoMemory, Rank};
+use icet_groups::TileRanks;
 use icet_legs::TileLeg;
 use icet_legs::row::in_a_row;
 use icet_plan::{Bracket, Leg, Plan};

@@ -3,7 +3,7 @@ use Rattle.std.proofs.Common.{◌≡◌, ◌≢◌, ℕ, zero, suc, ◌+◌, ◌
 use Rattle.std.specs.Prelude.{◌-◌, nat_lt, if◌then◌else◌, All, AllPairs}
 use Rattle.std.specs.List.{range_with_len, sum_by}
 use Rattle.std.proofs.lemmas.Bool.Decides.{nat_tests}
-use Rattle.std.proofs.lemmas.List.Elements.{All-nil, All-cons, All-head, All-tail}
+use Rattle.std.proofs.lemmas.List.Elements.{All-nil, All-cons, All-head, All-tail, All-map}
 use Rattle.std.proofs.lemmas.List.Kept.{AllPairs-cons}
 use Rattle.std.proofs.lemmas.List.FromFn.{length-range_with_len}
 use Rattle.icet_model.specs.declared.limits.TheConstants.{MAX_RANK_PIXELS}
@@ -12,6 +12,9 @@ use Rattle.icet_tiles.specs.Contributors.{HasEachOnce}
 use Rattle.icet_tiles.specs.declared.layout.Tile.{Tile}
 use Rattle.icet_model.specs.declared.names.Mode.TheVariants.{Depth}
 use Rattle.icet_tiles.specs.Layouts.{tile_view}
+use Rattle.icet_raster.specs.declared.shape.Shape.{Shape}
+use Rattle.icet_raster.specs.Shapes.{drawing_of}
+use Rattle.icet_scene_model.specs.Lawful.{is_blending, IsPainted}
 use Rattle.icet_scene_model.specs.declared.fault.Want.{Want}
 use Rattle.icet_scene_model.specs.declared.fault.LineFault.{LineFault}
 use Rattle.icet_scene_model.specs.declared.fault.LineFault.TheVariants.{BadByte, BadLine, OutOfPlace, OutOfRange, NotPremultiplied, RankTaken, BadOrder, NoMemory}
@@ -116,6 +119,17 @@ displayed ranks [] some h = All-nil (λ tile. tile.display < ranks)
 displayed ranks (tile ∷ tiles) some h =
     let first : tile.display < ranks = omega (arith, some, All-head (λ t. t.display ≤ ranks - 1) tile tiles h) in
     All-cons (λ t. t.display < ranks) (tile_view tile) (map tile_view tiles) first (displayed ranks tiles some (All-tail (λ t. t.display ≤ ranks - 1) tile tiles h))
+
+pub drawn_by : (ranks : ℕ) (shapes : List (ℕ × Shape)) → 1 ≤ ranks → All (λ shape. shape.0 ≤ ranks - 1) shapes → All (λ placed. placed.rank < ranks) (map placed_of shapes)
+drawn_by ranks shapes some h = All-map (λ placed. placed.rank < ranks) placed_of shapes (λ k e l. omega (arith, h k e l, some))
+
+pub painted_by : (most greatest : ℕ) (shapes : List (ℕ × Shape)) → most ≡ greatest → All (λ shape. IsPainted most (drawing_of shape.1)) shapes → All (λ placed. IsPainted greatest placed.shape) (map placed_of shapes)
+painted_by most greatest shapes e h = subst (λ m. All (λ placed. IsPainted m placed.shape) (map placed_of shapes)) e (All-map (λ placed. IsPainted most placed.shape) placed_of shapes h)
+
+pub mode_again : (b w : Bool) → mode_of b w ≡ mode_of (is_blending (mode_of b w)) w
+mode_again false w = refl
+mode_again true false = refl
+mode_again true true = refl
 
 pub each_of : (b : Bool) (ranks : ℕ) (order read : List ℕ) → (b ≡ true → HasEachOnce ranks read) → order ≡ (if b then read else range_with_len 0 ranks) → HasEachOnce ranks order
 each_of true ranks order read h e = subst (HasEachOnce ranks) (sym e) (h refl)

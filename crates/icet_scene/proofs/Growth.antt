@@ -1,5 +1,5 @@
 -- What holds of a draft when a line is added that may stand there.
-use Rattle.std.proofs.Common.{◌≡◌, ◌≢◌, ℕ, ◌-◌, ◌<◌, ◌≤◌, Bool, true, false, cond, List, [], ◌∷◌, ◌++◌, length, refl, sym, ap, ◌∙◌, arith}
+use Rattle.std.proofs.Common.{◌≡◌, ◌≢◌, ℕ, ◌-◌, ◌<◌, ◌≤◌, Bool, true, false, cond, List, [], ◌∷◌, ◌++◌, length, refl, sym, ap, ◌∙◌, subst, arith}
 use Rattle.std.specs.Prelude.{◌==◌, not, nat_lt, All, AllPairs}
 use Rattle.std.proofs.lemmas.List.Elements.{All-nil, All-same}
 use Rattle.std.proofs.lemmas.List.Quantifiers.{all_pairs_push}
@@ -7,15 +7,18 @@ use Rattle.std.proofs.lemmas.Bool.Decides.{nat_tests}
 use Rattle.icet_model.specs.declared.limits.TheConstants.{MAX_TILES}
 use Rattle.icet_model.specs.Tiles.{IsTileArea}
 use Rattle.icet_tiles.specs.declared.layout.Tile.{Tile}
-use Rattle.icet_raster.specs.Shapes.{IsInRange}
+use Rattle.icet_raster.specs.Shapes.{drawing_of, IsInRange}
+use Rattle.icet_scene_model.specs.Lawful.{IsPaint, IsPainted}
+use Rattle.icet_model.specs.Pixel.{FragmentView}
 use Rattle.icet_scene_model.specs.Fields.{most_tiles}
+use Rattle.icet_scene_model.specs.Scene.{clear}
 use Rattle.icet_scene_model.specs.SceneLines.{may_stand}
 use Rattle.icet_scene_model.specs.declared.keyword.Place.{Place}
 use Rattle.icet_scene_model.specs.declared.keyword.Place.TheVariants.{Start, BehindHead, BehindMode, BehindRanks, BehindMaxval, BehindBackground, BehindOrder, BehindTile, BehindShape, BehindEnd}
 use Rattle.icet_scene_model.specs.declared.keyword.Keyword.{Keyword}
 use Rattle.icet_scene_model.specs.declared.keyword.Keyword.TheVariants.{Head, Mode, Ranks, Maxval, Background, Order, Tile as TileWord, Point, Tri, Span, End}
 use Rattle.icet_scene.specs.declared.draft.Draft.{Draft}
-use Rattle.icet_scene.specs.Drafts.{IsSound, HasNothing, HasRanks, HasOrder, HasBody, HasPlace, has_room, keyword_stands}
+use Rattle.icet_scene.specs.Drafts.{IsSound, IsPlain, HasNothing, HasRanks, HasOrder, HasBody, HasPlace, has_room, keyword_stands}
 
 -- a line that stands before all tiles
 is_setting : Keyword → Bool
@@ -88,9 +91,9 @@ none_early BehindMode _ b r s l e = cc
 none_early _ k b r s l e = cc
 
 nothing : (d : Draft) (k : Keyword) (p : Place) (b r : Bool) → is_setting k ≡ true → may_stand p b r k ≡ true → HasPlace p d → HasNothing d
-nothing d k Start b r s e h = h
-nothing d k BehindHead b r s e h = h
-nothing d k BehindMode b r s e h = h
+nothing d k Start b r s e h = h.0
+nothing d k BehindHead b r s e h = h.0
+nothing d k BehindMode b r s e h = h.0
 nothing d k BehindRanks b r s e h = h.0
 nothing d k BehindMaxval b r s e h = h.0
 nothing d k BehindBackground b r s e h = h.0
@@ -148,6 +151,63 @@ pub order_ranked : (d : Draft) → keyword_stands d Order ≡ true → HasPlace 
 unfolding is_late
 order_ranked d e h = ranked d Order d.place d.blends (has_room d) refl e h
 
+-- a line that stands before a background
+is_first : Keyword → Bool
+is_first Head = true
+is_first Mode = true
+is_first Ranks = true
+is_first Maxval = true
+is_first _ = false
+
+-- a place behind `ranks`, where none of the first lines stands
+is_past : Place → Bool
+is_past Start = false
+is_past BehindHead = false
+is_past BehindMode = false
+is_past BehindRanks = false
+is_past _ = true
+
+none_past : (p : Place) (k : Keyword) (b r : Bool) → is_past p ≡ true → is_first k ≡ true → may_stand p b r k ≡ true → ⊥
+unfolding is_first is_past
+none_past p Head b r s l e = elim p as (λ q. is_past q ≡ true → may_stand q b r Head ≡ true → ⊥) [ Start ↦ λ x y. cc | BehindHead ↦ λ x y. cc | BehindMode ↦ λ x y. cc | BehindRanks ↦ λ x y. cc | BehindMaxval ↦ λ x y. cc | BehindBackground ↦ λ x y. cc | BehindOrder ↦ λ x y. cc | BehindTile ↦ λ x y. cc | BehindShape ↦ λ x y. cc | BehindEnd ↦ λ x y. cc ] s e
+none_past p Mode b r s l e = elim p as (λ q. is_past q ≡ true → may_stand q b r Mode ≡ true → ⊥) [ Start ↦ λ x y. cc | BehindHead ↦ λ x y. cc | BehindMode ↦ λ x y. cc | BehindRanks ↦ λ x y. cc | BehindMaxval ↦ λ x y. cc | BehindBackground ↦ λ x y. cc | BehindOrder ↦ λ x y. cc | BehindTile ↦ λ x y. cc | BehindShape ↦ λ x y. cc | BehindEnd ↦ λ x y. cc ] s e
+none_past p Ranks b r s l e = elim p as (λ q. is_past q ≡ true → may_stand q b r Ranks ≡ true → ⊥) [ Start ↦ λ x y. cc | BehindHead ↦ λ x y. cc | BehindMode ↦ λ x y. cc | BehindRanks ↦ λ x y. cc | BehindMaxval ↦ λ x y. cc | BehindBackground ↦ λ x y. cc | BehindOrder ↦ λ x y. cc | BehindTile ↦ λ x y. cc | BehindShape ↦ λ x y. cc | BehindEnd ↦ λ x y. cc ] s e
+none_past p Maxval b r s l e = elim p as (λ q. is_past q ≡ true → may_stand q b r Maxval ≡ true → ⊥) [ Start ↦ λ x y. cc | BehindHead ↦ λ x y. cc | BehindMode ↦ λ x y. cc | BehindRanks ↦ λ x y. cc | BehindMaxval ↦ λ x y. cc | BehindBackground ↦ λ x y. cc | BehindOrder ↦ λ x y. cc | BehindTile ↦ λ x y. cc | BehindShape ↦ λ x y. cc | BehindEnd ↦ λ x y. cc ] s e
+none_past p _ b r s l e = cc
+
+plain : (d : Draft) (k : Keyword) (p : Place) (b r : Bool) → is_first k ≡ true → may_stand p b r k ≡ true → HasPlace p d → IsPlain d
+unfolding is_past
+plain d k Start b r s e h = h.1
+plain d k BehindHead b r s e h = h.1
+plain d k BehindMode b r s e h = h.1
+plain d k BehindRanks b r s e h = h.2
+plain d k BehindMaxval b r s e h = absurd (none_past BehindMaxval k b r refl s e)
+plain d k BehindBackground b r s e h = absurd (none_past BehindBackground k b r refl s e)
+plain d k BehindOrder b r s e h = absurd (none_past BehindOrder k b r refl s e)
+plain d k BehindTile b r s e h = absurd (none_past BehindTile k b r refl s e)
+plain d k BehindShape b r s e h = absurd (none_past BehindShape k b r refl s e)
+plain d k BehindEnd b r s e h = absurd (none_past BehindEnd k b r refl s e)
+
+pub head_plain : (d : Draft) → keyword_stands d Head ≡ true → HasPlace d.place d → IsPlain d
+unfolding is_first
+head_plain d e h = plain d Head d.place d.blends (has_room d) refl e h
+
+pub mode_plain : (d : Draft) → keyword_stands d Mode ≡ true → HasPlace d.place d → IsPlain d
+unfolding is_first
+mode_plain d e h = plain d Mode d.place d.blends (has_room d) refl e h
+
+pub ranks_plain : (d : Draft) → keyword_stands d Ranks ≡ true → HasPlace d.place d → IsPlain d
+unfolding is_first
+ranks_plain d e h = plain d Ranks d.place d.blends (has_room d) refl e h
+
+pub maxval_plain : (d : Draft) → keyword_stands d Maxval ≡ true → HasPlace d.place d → IsPlain d
+unfolding is_first
+maxval_plain d e h = plain d Maxval d.place d.blends (has_room d) refl e h
+
+-- transparent black is a paint, whatever the greatest channel is
+pub clear_paint : (most : ℕ) (paint : FragmentView) → paint ≡ clear → IsPaint most paint
+clear_paint most paint e = subst (IsPaint most) (sym e) (record { fragment = record { r_within = omega arith; g_within = omega arith; b_within = omega arith; a_within = omega arith; z_within = omega arith }; within = omega arith })
+
 -- what holds of a draft that takes a further tile
 pub record TakesTile (d : Draft) : Type 0 where
   pub sound : IsSound d
@@ -159,6 +219,7 @@ pub record TakesTile (d : Draft) : Type 0 where
   pub displays : All (λ tile. tile.display ≤ d.ranks - 1) d.tiles.items
   pub drawers : All (λ shape. shape.0 ≤ d.ranks - 1) d.shapes.items
   pub in_range : All (λ shape. IsInRange shape.1) d.shapes.items
+  pub painted : All (λ shape. IsPainted d.maxval (drawing_of shape.1)) d.shapes.items
 
 few_tiles : (version n : ℕ) → nat_lt n (most_tiles version) ≡ true → n < MAX_TILES
 few_tiles version n e = go (version == 2) e
@@ -181,6 +242,7 @@ first_tile d n r o = record {
   displays = All-same (λ tile. tile.display ≤ d.ranks - 1) d.tiles.items [] n.tiles (All-nil (λ tile. tile.display ≤ d.ranks - 1));
   drawers = All-same (λ shape. shape.0 ≤ d.ranks - 1) d.shapes.items [] n.shapes (All-nil (λ shape. shape.0 ≤ d.ranks - 1));
   in_range = All-same (λ shape. IsInRange shape.1) d.shapes.items [] n.shapes (All-nil (λ shape. IsInRange shape.1));
+  painted = All-same (λ shape. IsPainted d.maxval (drawing_of shape.1)) d.shapes.items [] n.shapes (All-nil (λ shape. IsPainted d.maxval (drawing_of shape.1)));
 }
 
 by_depth : (d : Draft) → not d.blends ≡ true → HasOrder d
@@ -194,7 +256,7 @@ takes d BehindRanks e h = first_tile d h.0 h.1 (by_depth d e)
 takes d BehindMaxval e h = first_tile d h.0 h.1 (by_depth d e)
 takes d BehindBackground e h = first_tile d h.0 h.1 (by_depth d e)
 takes d BehindOrder e h = first_tile d h.0 h.1 h.2
-takes d BehindTile e h = record { sound = h.sound; ranked = h.ranked; ordered = h.ordered; room = few_tiles d.version (length d.tiles.items) e; areas = h.areas; distinct = h.distinct; displays = h.displays; drawers = h.drawers; in_range = h.in_range }
+takes d BehindTile e h = record { sound = h.sound; ranked = h.ranked; ordered = h.ordered; room = few_tiles d.version (length d.tiles.items) e; areas = h.areas; distinct = h.distinct; displays = h.displays; drawers = h.drawers; in_range = h.in_range; painted = h.painted }
 takes d BehindShape e h = absurd cc
 takes d BehindEnd e h = absurd cc
 
@@ -265,9 +327,9 @@ pub span_stands : (d : Draft) → keyword_stands d Span ≡ true → keyword_sta
 span_stands d e = span_place d.place d.blends (has_room d) e
 
 sound_at : (d : Draft) (p : Place) → HasPlace p d → IsSound d
-sound_at d Start h = h.sound
-sound_at d BehindHead h = h.sound
-sound_at d BehindMode h = h.sound
+sound_at d Start h = h.0.sound
+sound_at d BehindHead h = h.0.sound
+sound_at d BehindMode h = h.0.sound
 sound_at d BehindRanks h = h.0.sound
 sound_at d BehindMaxval h = h.0.sound
 sound_at d BehindBackground h = h.0.sound

@@ -4,9 +4,10 @@ use Rattle.icet_model.specs.declared.limits.TheConstants.{MAX_RANKS, MAX_TILES}
 use Rattle.icet_model.specs.Tiles.{IsTileArea}
 use Rattle.icet_tiles.specs.Contributors.{HasEachOnce}
 use Rattle.icet_tiles.specs.Layouts.{tile_view}
-use Rattle.icet_raster.specs.Shapes.{IsInRange}
+use Rattle.icet_raster.specs.Shapes.{drawing_of, IsInRange}
 use Rattle.icet_scene_model.specs.Fields.{most_tiles}
-use Rattle.icet_scene_model.specs.Scene.{Said, place_behind, version_in, blends_in, ranks_in, maxval_in, background_in, order_in, tiles_in, shapes_in}
+use Rattle.icet_scene_model.specs.Lawful.{greatest_channel, IsPaint, IsPainted}
+use Rattle.icet_scene_model.specs.Scene.{Said, place_behind, version_in, blends_in, ranks_in, maxval_in, background_in, order_in, tiles_in, shapes_in, clear, is_wide}
 use Rattle.icet_scene_model.specs.SceneLines.{may_stand}
 use Rattle.icet_scene_model.specs.declared.keyword.Place.{Place}
 use Rattle.icet_scene_model.specs.declared.keyword.Keyword.{Keyword}
@@ -32,7 +33,13 @@ pub record IsDraft (before : List Said) (d : Draft) : Type 0 where
 -- what holds of each draft
 pub record IsSound (d : Draft) : Type 0 where
   pub maxval : d.maxval ≤ 65535
+  pub known : d.maxval ≡ greatest_channel (is_wide d.maxval)
   pub depth : d.background.z ≡ 0
+  pub paint : IsPaint d.maxval d.background
+
+-- no background is read
+pub record IsPlain (d : Draft) : Type 0 where
+  pub background : d.background ≡ clear
 
 -- no tile and no shape is read
 pub record HasNothing (d : Draft) : Type 0 where
@@ -60,13 +67,14 @@ pub record HasBody (d : Draft) : Type 0 where
   pub displays : All (λ tile. tile.display ≤ d.ranks - 1) d.tiles.items
   pub drawers : All (λ shape. shape.0 ≤ d.ranks - 1) d.shapes.items
   pub in_range : All (λ shape. IsInRange shape.1) d.shapes.items
+  pub painted : All (λ shape. IsPainted d.maxval (drawing_of shape.1)) d.shapes.items
 
 -- what is read by a place
 abbrev pub HasPlace : Place → Draft → Type 0
-HasPlace Start d = HasNothing d
-HasPlace BehindHead d = HasNothing d
-HasPlace BehindMode d = HasNothing d
-HasPlace BehindRanks d = HasNothing d × HasRanks d
+HasPlace Start d = HasNothing d × IsPlain d
+HasPlace BehindHead d = HasNothing d × IsPlain d
+HasPlace BehindMode d = HasNothing d × IsPlain d
+HasPlace BehindRanks d = HasNothing d × HasRanks d × IsPlain d
 HasPlace BehindMaxval d = HasNothing d × HasRanks d
 HasPlace BehindBackground d = HasNothing d × HasRanks d
 HasPlace BehindOrder d = HasNothing d × HasRanks d × HasOrder d
@@ -95,6 +103,6 @@ MayAdd d End = keyword_stands d EndWord ≡ true
 
 -- the line may be added to the draft
 pub record IsAddable (d : Draft) (line : Line) : Type 0 where
-  pub lawful : IsLawful d.ranks line
+  pub lawful : IsLawful d.ranks d.maxval line
   pub fresh : IsFresh d.tiles.items line
   pub stands : MayAdd d line

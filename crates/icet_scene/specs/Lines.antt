@@ -10,7 +10,8 @@ use Rattle.icet_tiles.specs.Contributors.{HasEachOnce}
 use Rattle.icet_tiles.specs.Layouts.{tile_view}
 use Rattle.icet_raster.specs.declared.shape.Shape.{Shape}
 use Rattle.icet_raster.specs.Shapes.{drawing_of, IsInRange}
-use Rattle.icet_scene_model.specs.Scene.{Said, HeadIs, ModeIs, RanksAre, MaxvalIs, BackgroundIs, OrderIs, TileIs, Draws, EndIs, Placed}
+use Rattle.icet_scene_model.specs.Lawful.{greatest_channel, IsPaint, IsPainted}
+use Rattle.icet_scene_model.specs.Scene.{is_wide, Said, HeadIs, ModeIs, RanksAre, MaxvalIs, BackgroundIs, OrderIs, TileIs, Draws, EndIs, Placed}
 use Rattle.icet_scene_model.specs.SceneLines.{LineReading, Skipped, Says, Faulty, is_premultiplied, paint_at, corner_at}
 use Rattle.icet_scene_model.specs.declared.fault.LineFault.{LineFault}
 use Rattle.icet_scene_model.specs.declared.fault.LineFault.TheVariants.{BadByte, BadLine, OutOfPlace, OutOfRange, NotPremultiplied, RankTaken, BadOrder, NoMemory}
@@ -55,15 +56,15 @@ IsLineOrSkipped (Ok None) reading = reading ≡ Skipped
 IsLineOrSkipped (Ok (Some line)) reading = reading ≡ Says (said_of line)
 IsLineOrSkipped (Err fault) reading = IsFaultOf fault reading
 
--- what holds of a line in a scene with so many ranks
-abbrev pub IsLawful : ℕ → Line → Type 0
-IsLawful ranks (Ranks count) = (1 ≤ count) × (count ≤ 256)
-IsLawful ranks (Maxval greatest) = greatest ≤ 65535
-IsLawful ranks (Background paint) = paint.z ≡ 0
-IsLawful ranks (Order order) = HasEachOnce ranks order.items
-IsLawful ranks (TileLine tile) = IsTileArea tile.area × (tile.display ≤ ranks - 1)
-IsLawful ranks (ShapeLine rank shape) = (rank ≤ ranks - 1) × IsInRange shape
-IsLawful ranks line = Unit {0}
+-- what holds of a line in a scene with so many ranks and channels up to the greatest
+abbrev pub IsLawful : ℕ → ℕ → Line → Type 0
+IsLawful ranks most (Ranks count) = (1 ≤ count) × (count ≤ 256)
+IsLawful ranks most (Maxval greatest) = (greatest ≤ 65535) × (greatest ≡ greatest_channel (is_wide greatest))
+IsLawful ranks most (Background paint) = (paint.z ≡ 0) × IsPaint most paint
+IsLawful ranks most (Order order) = HasEachOnce ranks order.items
+IsLawful ranks most (TileLine tile) = IsTileArea tile.area × (tile.display ≤ ranks - 1)
+IsLawful ranks most (ShapeLine rank shape) = (rank ≤ ranks - 1) × IsInRange shape × IsPainted most (drawing_of shape)
+IsLawful ranks most line = Unit {0}
 
 -- a paint's five numbers stand from a place on, each in its range
 pub record HasPaintAt (most : ℕ) (ns : List Number) (i : ℕ) : Type 0 where

@@ -1,6 +1,7 @@
 ghost use Rattle.std.specs.Prelude.{◌≡◌, ◌≤◌, ◌<◌, ◌+◌, ◌↔◌, IfSome, IsSome, length, true};
 ghost use Rattle.icet_text.specs.Numbers.{size_at};
 ghost use Rattle.icet_scene_model.specs.Fields.{from_to, rank_field, tile_fields, stand_fields, paint_fields, tri_fields, most_ranks, most_tiles};
+ghost use Rattle.icet_scene_model.specs.Lawful.{IsPaint};
 ghost use Rattle.icet_scene_model.specs.SceneLines.{paint_at, is_premultiplied};
 ghost use Rattle.icet_scene.specs.Lines.{HasPaintAt};
 
@@ -100,7 +101,7 @@ pub fn paint(most: u32, ns: &[Number], i: usize) -> Option<Fragment>
     requires paint { HasPaintAt most ns.now i }
     ensures paint { IfSome result (λ paint. paint ≡ paint_at ns.now i) }
     ensures exact { IsSome result ↔ (is_premultiplied (paint_at ns.now i) ≡ true) }
-    ensures narrow { IfSome result (λ paint. paint.a ≤ most) }
+    ensures lawful { IfSome result (IsPaint most) }
 {
     Fragment::new(
         size(ns, i + 1) as u16,

@@ -1,6 +1,7 @@
 ghost use Rattle.std.specs.Prelude.{◌≡◌, ◌≤◌, ◌<◌, ◌-◌, List, ◌↔◌, IfOk, IfSome, IsSome, true};
 ghost use Rattle.std.specs.Option.{option_copied};
 ghost use Rattle.icet_text.specs.Words.{words_behind, counted};
+ghost use Rattle.icet_scene_model.specs.Lawful.{IsPaint};
 ghost use Rattle.icet_scene_model.specs.Scene.{Said, BackgroundIs, version_in, ranks_in, maxval_in};
 ghost use Rattle.icet_scene_model.specs.SceneLines.{ranged, said_in, all_differ, background_of, is_premultiplied};
 ghost use Rattle.icet_scene_model.specs.declared.keyword.Keyword.TheVariants.{Head, Mode, Ranks, Maxval, Background, Order};
@@ -76,7 +77,7 @@ pub fn maxval_line(words: Option<&[u8]>) -> Result<Line, LineFault>
 pub fn background_line(most: u32, words: Option<&[u8]>) -> Result<Line, LineFault>
     requires { most ≤ 65535 }
     ensures line { (before : List Said) → maxval_in before ≡ most → IsLine result (ranged before (said_in before Background (words_behind (option_copied words.entry)))) }
-    ensures addable { (d : Draft) → keyword_stands d Background ≡ true → IfOk result (IsAddable d) }
+    ensures addable { (d : Draft) → keyword_stands d Background ≡ true → d.maxval ≡ most → IfOk result (IsAddable d) }
 {
     let channel = from_to(0, most);
     match numbers(&[channel, channel, channel, channel], words) {
@@ -95,7 +96,7 @@ fn background(most: u32, ns: &[Number]) -> Option<Fragment>
     ensures paint { IfSome result (λ paint. BackgroundIs paint ≡ background_of ns.now) }
     ensures exact { IsSome result ↔ (is_premultiplied (colour_of ns.now) ≡ true) }
     ensures depth { IfSome result (λ paint. paint.z ≡ 0) }
-    ensures narrow { IfSome result (λ paint. paint.a ≤ most) }
+    ensures lawful { IfSome result (IsPaint most) }
 {
     Fragment::new(
         size(ns, 0) as u16,

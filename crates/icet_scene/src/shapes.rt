@@ -7,6 +7,7 @@ ghost use Rattle.icet_tiles.specs.Layouts.{tile_view};
 ghost use Rattle.icet_raster.specs.Shapes.{IsCorner, IsInRange, corner_of, drawing_of, triangle_of};
 ghost use Rattle.icet_text.specs.Numbers.{size_at};
 ghost use Rattle.icet_text.specs.Words.{words_behind};
+ghost use Rattle.icet_scene_model.specs.Lawful.{IsPaint, IsPaintedCorner, IsPaintedTriangle};
 ghost use Rattle.icet_scene_model.specs.Raster.{Point, Span};
 ghost use Rattle.icet_scene_model.specs.Scene.{Said, TileIs, ranks_in, maxval_in, tiles_in};
 ghost use Rattle.icet_scene_model.specs.SceneLines.{ranged, said_in, tile_of, paint_at, paints_in, corner_at, is_premultiplied};
@@ -85,7 +86,7 @@ fn is_taken(tiles: &[Tile], rank: Rank) -> bool
 pub fn point_line(ranks: u32, most: u32, words: Option<&[u8]>) -> Result<Line, LineFault>
     requires { most ≤ 65535 }
     ensures line { (before : List Said) → ranks_in before ≡ ranks → maxval_in before ≡ most → IsLine result (ranged before (said_in before PointWord (words_behind (option_copied words.entry)))) }
-    ensures addable { (d : Draft) → keyword_stands d PointWord ≡ true → d.ranks ≡ ranks → IfOk result (IsAddable d) }
+    ensures addable { (d : Draft) → keyword_stands d PointWord ≡ true → d.ranks ≡ ranks → d.maxval ≡ most → IfOk result (IsAddable d) }
 {
     let (place, depth, channel) = (
         from_to(0, MAX_PLACE),
@@ -134,7 +135,7 @@ fn point(ns: &[Number], paint: Fragment) -> Shape
 pub fn tri_line(ranks: u32, most: u32, words: Option<&[u8]>) -> Result<Line, LineFault>
     requires { most ≤ 65535 }
     ensures line { (before : List Said) → ranks_in before ≡ ranks → maxval_in before ≡ most → IsLine result (ranged before (said_in before TriWord (words_behind (option_copied words.entry)))) }
-    ensures addable { (d : Draft) → keyword_stands d TriWord ≡ true → d.ranks ≡ ranks → IfOk result (IsAddable d) }
+    ensures addable { (d : Draft) → keyword_stands d TriWord ≡ true → d.ranks ≡ ranks → d.maxval ≡ most → IfOk result (IsAddable d) }
 {
     match numbers(&tri_fields(ranks, most), words) {
         None => Err(LineFault::OutOfRange),
@@ -157,6 +158,7 @@ fn corners(most: u32, ns: &[Number]) -> Option<[Vertex; 3]>
     ensures corners { IfSome result (λ corners. triangle_of corners ≡ triangle_at ns.now) }
     ensures exact { IsSome result ↔ (list_all is_premultiplied (tri_paints ns.now) ≡ true) }
     ensures on_plane { IfSome result (λ corners. All IsCorner corners) }
+    ensures painted { IfSome result (λ corners. IsPaintedTriangle most (triangle_of corners)) }
 {
     let a = vertex(most, ns, 1)?;
     let b = vertex(most, ns, 8)?;
@@ -171,6 +173,7 @@ fn vertex(most: u32, ns: &[Number], i: usize) -> Option<Vertex>
     ensures corner { IfSome result (λ v. corner_of v ≡ corner_at ns.now i) }
     ensures exact { IsSome result ↔ (is_premultiplied (paint_at ns.now (i + 2)) ≡ true) }
     ensures on_plane { IfSome result IsCorner }
+    ensures painted { IfSome result (λ v. IsPaintedCorner most (corner_of v)) }
 {
     let paint = paint(most, ns, i + 2)?;
     Some(Vertex {
@@ -191,7 +194,7 @@ pub fn span_line(
     requires most { most ≤ 65535 }
     requires some { 8 ≤ length (words_behind (option_copied words)) }
     ensures line { (before : List Said) → ranks_in before ≡ ranks → maxval_in before ≡ most → IsLine result (ranged before (said_in before SpanWord (words_behind (option_copied words.entry)))) }
-    ensures addable { (d : Draft) → keyword_stands d SpanWord ≡ true → d.ranks ≡ ranks → IfOk result (IsAddable d) }
+    ensures addable { (d : Draft) → keyword_stands d SpanWord ≡ true → d.ranks ≡ ranks → d.maxval ≡ most → IfOk result (IsAddable d) }
 {
     match lead(&stand_fields(ranks), words) {
         None => Err(LineFault::OutOfRange),
@@ -231,6 +234,7 @@ fn row(
 ) -> Result<Vec<Fragment>, LineFault>
     requires { most ≤ 65535 }
     ensures paints { IfOk result (λ paints. paints_in most (words_behind (option_copied words.entry)) ≡ Some paints.items) }
+    ensures painted { IfOk result (λ paints. All (IsPaint most) paints.items) }
     ensures well { OnOk result (row_fault room (paints_in most (words_behind (option_copied words.entry))) ≡ None) }
     ensures fault { IfErr result (λ fault. IsRowFault fault room (paints_in most (words_behind (option_copied words.entry)))) }
 {

@@ -3,7 +3,9 @@ pub mod Examples
 pub mod FaultLines
 pub mod Fields
 pub mod Jobs
+pub mod Lawful
 pub mod Picture
+pub mod Printed
 pub mod Raster
 pub mod Scene
 pub mod SceneLines

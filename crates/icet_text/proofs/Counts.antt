@@ -1,5 +1,5 @@
 -- The words of a line counted, one after the other.
-use Rattle.std.proofs.Common.{◌≡◌, ℕ, ◌+◌, ◌≤◌, List, [], ◌∷◌, length, Option, Some, None}
+use Rattle.std.proofs.Common.{◌≡◌, ℕ, ◌+◌, ◌≤◌, List, length, Option, Some, None}
 use Rattle.std.specs.List.{list_all}
 use Rattle.icet_text.specs.Numerals.{is_numeral}
 use Rattle.icet_text.specs.Words.{words_behind}

@@ -1,5 +1,5 @@
 -- The numbers of a line, one word after the other.
-use Rattle.std.proofs.Common.{◌≡◌, ℕ, zero, suc, ◌+◌, ◌-◌, ◌<◌, ◌≤◌, Bool, true, false, cond, List, [], ◌∷◌, ◌++◌, length, take, drop, get_or, refl, sym, ap, ◌∙◌, subst, arith, Option, Some, None, add-one, append_assoc, append-nil, length-append}
+use Rattle.std.proofs.Common.{◌≡◌, ℕ, zero, suc, ◌+◌, ◌-◌, ◌<◌, Bool, true, false, cond, List, [], ◌∷◌, ◌++◌, length, take, drop, get_or, refl, sym, ap, ◌∙◌, subst, arith, Option, Some, None, add-one, append_assoc, append-nil, length-append}
 use Rattle.std.specs.Prelude.{option_map, ◌==◌}
 use Rattle.std.proofs.lemmas.List.Splits.{length-slice_split}
 use Rattle.std.proofs.Math.Seq.{drop-cons}
@@ -8,7 +8,7 @@ use Rattle.std.proofs.lemmas.Bool.Decides.{nat_tests}
 use Rattle.icet_text.specs.declared.field.Field.{Field}
 use Rattle.icet_text.specs.declared.field.Number.{Number}
 use Rattle.icet_text.specs.Numerals.{number_in, takes, value_of, is_numeral}
-use Rattle.icet_text.specs.Numbers.{with_number, numbers_in, no_number, IsIn, IsInAt}
+use Rattle.icet_text.specs.Numbers.{with_number, numbers_in, IsIn, IsInAt}
 use Rattle.icet_text.specs.Lines.{words_of}
 
 -- the numbers of the first fields are read, and the others are those of the words that are left

@@ -1,4 +1,5 @@
 pub mod Lines
 pub mod Numbers
 pub mod Numerals
+pub mod Samples
 pub mod Words

@@ -1,5 +1,5 @@
 -- The numbers of a line: one word for each field.
-use Rattle.std.specs.Prelude.{ℕ, ℤ, pos, neg_ℤ, Bool, true, false, List, [], ◌∷◌, ◌≤◌, ◌≡◌, Option, Some, None, option_map, cond, slice_index_or}
+use Rattle.std.specs.Prelude.{ℕ, ℤ, pos, neg_ℤ, false, List, [], ◌∷◌, ◌≤◌, Option, Some, None, option_map, cond, slice_index_or}
 use Rattle.icet_text.specs.Numerals.{number_in}
 use Rattle.icet_text.specs.declared.field.Number.{Number}
 use Rattle.icet_text.specs.declared.field.Field.{Field}

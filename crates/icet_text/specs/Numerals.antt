@@ -1,6 +1,6 @@
 -- Decimal numerals: 0, or a digit from 1 to 9 and then digits, or a minus sign and such a numeral that
 -- isn't 0; of any length.
-use Rattle.std.specs.Prelude.{ℕ, ◌+◌, ◌-◌, ◌*◌, Bool, true, false, ◌&&◌, nat_le, ◌==◌, not, cond, List, [], ◌∷◌, drop, Option, Some, None, option_map}
+use Rattle.std.specs.Prelude.{ℕ, ◌+◌, ◌-◌, ◌*◌, Bool, true, false, ◌&&◌, nat_le, ◌==◌, not, cond, List, [], ◌∷◌, drop, Option, Some, None}
 use Rattle.std.specs.List.{list_all}
 use Rattle.std.specs.Option.{option_and_then}
 use Rattle.icet_text.specs.declared.field.Number.{Number}

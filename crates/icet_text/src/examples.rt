@@ -2,6 +2,7 @@
 ghost use Rattle.std.specs.Prelude.{◌≡◌, [], ◌∷◌, None, Some, codes, true, false};
 ghost use Rattle.icet_text.specs.Lines.{lines_of, words_of};
 ghost use Rattle.icet_text.specs.Numerals.{natural_of, within, is_numeral, number_in};
+ghost use Rattle.icet_text.specs.Samples.{digit, signed_digit};
 
 /// Decimal numerals have no sign but a minus before a number that isn't 0, no leading zero and no empty form.
 pub fn numerals()
@@ -23,9 +24,9 @@ pub fn ranges()
     ensures greatest { within 0 16777214 16777214 ≡ Some 16777214 }
     ensures beyond { within 0 16777214 16777215 ≡ None }
     ensures below { within 1 16384 0 ≡ None }
-    ensures negative { number_in (record { is_signed = false; least = 0; greatest = 9 }) (codes "-5") ≡ None }
-    ensures taken { number_in (record { is_signed = true; least = 0; greatest = 9 }) (codes "-5") ≡ Some (record { is_negative = true; size = 5 }) }
-    ensures signed_beyond { number_in (record { is_signed = true; least = 0; greatest = 9 }) (codes "-10") ≡ None }
+    ensures negative { number_in digit (codes "-5") ≡ None }
+    ensures taken { number_in signed_digit (codes "-5") ≡ Some (record { is_negative = true; size = 5 }) }
+    ensures signed_beyond { number_in signed_digit (codes "-10") ≡ None }
 {}
 
 /// A line ends at a newline, which the last one may lack; two spaces in a row make an empty word.

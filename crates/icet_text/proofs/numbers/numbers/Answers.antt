@@ -1,4 +1,4 @@
-use Rattle.std.proofs.Common.{sym, ◌≡◌, ◌∙◌, ◌<◌, [], arith, rules, length, drop, ap}
+use Rattle.std.proofs.Common.{sym, ◌≡◌, ◌∙◌, ◌<◌, [], arith, length, drop, ap}
 use Rattle.std.specs.Option.{option_copied}
 use Rattle.icet_text.specs.Words.{words_behind}
 use Rattle.icet_text.proofs.Fields.{lead_whole, lead_longer, lead_misfit, some_words}

@@ -1,4 +1,3 @@
-use Rattle.std.proofs.Common.{◌+◌, length}
 use Rattle.std.specs.Option.{option_copied}
 use Rattle.icet_text.specs.Words.{words_behind}
 use Rattle.icet_text.proofs.Counts.{HasCounted, bytes_left}

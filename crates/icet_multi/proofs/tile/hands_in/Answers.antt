@@ -1,6 +1,6 @@
 use Rattle.std.proofs.Common.{arith}
 use Rattle.std.proofs.lemmas.Grind.{common_steps}
-use Rattle.icet_multi.proofs.tile.TileRanks.hands_in.Goals as goal
+use Rattle.icet_multi.proofs.tile.hands_in.Goals as goal
 
 pub returns-then-is_among : goal.returns-then-is_among
 returns-then-is_among c = grind (arith, common_steps)

@@ -1,0 +1,2 @@
+pub mod FilledLegs
+pub mod ReduceLeaves

@@ -1,0 +1,3 @@
+pub mod FilledSlot
+pub mod Reduce
+pub mod ReduceSamples

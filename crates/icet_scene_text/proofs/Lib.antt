@@ -1,0 +1,10 @@
+pub mod BodyLines
+pub mod LinePieces
+pub mod NumberPieces
+pub mod NumeralWords
+pub mod OpeningLines
+pub mod PieceLoops
+pub mod PrintedScenes
+pub mod ShapeLines
+pub mod SingleLines
+pub mod TextLines
