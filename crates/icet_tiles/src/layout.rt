@@ -1,7 +1,10 @@
-ghost use Rattle.std.specs.Prelude.{◌≡◌, ◌<◌, ◌≤◌, Some, length, map, slice_get};
+ghost use Rattle.std.specs.Prelude.{◌≡◌, ◌≢◌, ◌↔◌, ◌<◌, ◌≤◌, ◌==◌, IsTrue, All, AllPairs, Some, length, map, slice_get, take};
+ghost use Rattle.std.specs.List.{list_any};
 ghost use Rattle.icet_model.specs.declared.limits.TheConstants.{MAX_TILES};
 ghost use Rattle.icet_model.specs.Tiles.{IsTileArea, IsLayout as IsLayoutOfViews};
+ghost use Rattle.icet_tiles.specs.Layouts.{IsLayout, IsSide};
 
+use icet_base::limits::{MAX_PLACE, MAX_SIDE, MAX_TILES};
 use icet_base::{Rank, Rect};
 use std::marker::Model;
 
@@ -60,4 +63,56 @@ impl Layout {
     {
         self.tiles[t as usize]
     }
+}
+
+/// Whether the tiles make a layout: at least one and at most `MAX_TILES`, each inside the greatest display, with
+/// display ranks that differ. It compares each rank with those before it.
+pub fn lawful(tiles: &[Tile]) -> bool
+    ensures { IsTrue result ↔ IsLayout tiles.now }
+{
+    let count = tiles.len();
+    1 <= count && count <= MAX_TILES as usize && are_inside(tiles) && have_own_displays(tiles)
+}
+
+fn are_inside(tiles: &[Tile]) -> bool
+    ensures { IsTrue result ↔ All (λ tile. IsTileArea tile.area) tiles.now }
+{
+    tiles.iter().all(|tile| is_inside(tile.area))
+}
+
+/// Whether the rectangle is one that a tile may have.
+fn is_inside(area: Rect) -> bool
+    ensures { IsTrue result ↔ IsTileArea area }
+{
+    is_side(area.x, area.w) && is_side(area.y, area.h)
+}
+
+/// Whether so many pixels from the first one on lie in a row or a column of the greatest display.
+fn is_side(first: i32, count: u32) -> bool
+    ensures { IsTrue result ↔ IsSide first count }
+{
+    0 <= first
+        && first <= MAX_PLACE as i32
+        && 1 <= count
+        && count <= MAX_SIDE
+        && first as u32 + count <= MAX_SIDE
+}
+
+/// Whether no two tiles have the same display rank.
+fn have_own_displays(tiles: &[Tile]) -> bool
+    ensures { IsTrue result ↔ AllPairs (λ one other. one.display ≢ other.display) tiles.now }
+{
+    for at in 0..tiles.len() {
+        if is_shown(&tiles[..at], tiles[at].display) {
+            return false;
+        }
+    }
+    true
+}
+
+/// Whether the rank displays one of the tiles.
+fn is_shown(tiles: &[Tile], rank: Rank) -> bool
+    ensures { result ≡ list_any (λ tile. tile.display == rank) tiles.now }
+{
+    tiles.iter().any(|tile| tile.display == rank)
 }

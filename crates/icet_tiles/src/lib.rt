@@ -7,4 +7,4 @@ pub mod layout;
 
 pub use area::{contains, meet};
 pub use contributors::Contributors;
-pub use layout::{Layout, Tile};
+pub use layout::{Layout, Tile, lawful};
