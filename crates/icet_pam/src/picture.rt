@@ -42,7 +42,7 @@ fn write_header<K: Sink>(pen: &mut Pen<'_, K>, wide: bool, w: u32, h: u32) -> Re
 }
 
 /// The lines behind the size.
-fn header_end(wide: bool) -> &'static [u8]
+pub fn header_end(wide: bool) -> &'static [u8]
     ensures { result.now ≡ header_end wide }
 {
     if wide {

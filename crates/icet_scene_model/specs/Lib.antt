@@ -7,6 +7,7 @@ pub mod Lawful
 pub mod Picture
 pub mod Printed
 pub mod Raster
+pub mod ReadPicture
 pub mod Scene
 pub mod SceneLines
 pub mod Texts
