@@ -4,8 +4,12 @@
 Prints, for each scene, nanoseconds per byte of the scene's text and nanoseconds per rank-pixel (ranks
 times pixels of the tile), the best of three runs, and the greatest memory in use. In a row of scenes
 only one size grows; where that size is what costs, its column stands still while the size doubles.
+With --reading it shows instead how fast scenes are read: texts of triangles, each twice as long as the one
+before, by the job that writes the messages of a plan, of which one rank has none. The best of five runs, less
+the best start-up, both by the clock and by the processor time that the program took, which other work on the
+machine disturbs less. It fails where twice the text takes more than 2.2 times the processor time.
 It needs the program built once: ./icet composite --strategy direct < examples/one-point.scene
-Usage: bench/linear.py [--limits]   (--limits also runs the largest legal inputs)
+Usage: bench/linear.py [--limits | --reading]   (--limits also runs the largest legal inputs)
 """
 import os
 import random
@@ -18,6 +22,9 @@ import time
 HERE = os.path.dirname(os.path.dirname(os.path.abspath(__file__)))
 PROGRAM = os.path.join(HERE, "crates", "icet", "out", "icet")
 WORDS = [PROGRAM, "composite", "--strategy", "direct"]
+READING = [PROGRAM, "traffic", "--strategy", "direct"]
+MAX_BYTES = 67_108_864  # of a scene's text
+MAX_GROWTH = 2.2  # of the time to read twice the text
 
 
 def scene(path, ranks, side, points):
@@ -32,16 +39,78 @@ def scene(path, ranks, side, points):
     return os.path.getsize(path)
 
 
-def run(path):
-    """The seconds of one run, and the greatest memory in use in bytes."""
+def shapes(path, size, lines):
+    """Writes a scene of one rank of at most so many bytes, with these lines again and again."""
+    head = "icet-scene 1\nmode depth\nranks 1\ntile 0 0 1 1 0\n"
+    room = size - len(head) - len("end\n")
+    with open(path, "w") as file:
+        file.write(head)
+        block = "".join(lines)
+        for _ in range(room // len(block)):
+            file.write(block)
+        room %= len(block)
+        for line in lines:
+            if len(line) > room:
+                break
+            file.write(line)
+            room -= len(line)
+        file.write("end\n")
+    return os.path.getsize(path)
+
+
+def triangles(count):
+    """The lines of so many triangles, with corners all over the plane."""
+    draw = random.Random(7)
+
+    def corner():
+        x, y = (draw.randrange(-262_143, 262_144) for _ in range(2))
+        return f" {x} {y} {draw.randrange(16_777_215)} {draw.randrange(256)} 20 30 255"
+
+    return [f"tri 0{corner()}{corner()}{corner()}\n" for _ in range(count)]
+
+
+def run(path, words=WORDS):
+    """The seconds of one run, the greatest memory in use in bytes, and the seconds of processor time."""
     before = time.monotonic()
     with open(path, "rb") as source, open(os.devnull, "wb") as sink:
-        process = subprocess.Popen(WORDS, stdin=source, stdout=sink)
+        process = subprocess.Popen(words, stdin=source, stdout=sink)
         _, status, usage = os.wait4(process.pid, 0)
     seconds = time.monotonic() - before
     if status != 0:
         sys.exit(f"{path}: status {os.waitstatus_to_exitcode(status)}")
-    return seconds, usage.ru_maxrss * 1024
+    return seconds, usage.ru_maxrss * 1024, usage.ru_utime + usage.ru_stime
+
+
+def best(path):
+    """The least seconds, the greatest memory and the least processor time of five runs that read a scene."""
+    runs = [run(path, READING) for _ in range(5)]
+    return min(r[0] for r in runs), max(r[1] for r in runs), min(r[2] for r in runs)
+
+
+def read(path, name, size, start):
+    """Prints how fast a scene is read, and gives the processor time."""
+    seconds, memory, processor = best(path)
+    clock, processor = max(seconds - start[0], 1e-9), max(processor - start[2], 1e-9)
+    print(f"{name:34} {size:>11} {clock:8.3f} {size / clock / 1e6:8.0f} {processor:8.3f} {size / processor / 1e6:8.0f} {memory / 2**20:8.0f}", flush=True)
+    return processor
+
+
+def show_reading(folder):
+    path = os.path.join(folder, "scene")
+    shapes(path, 100, triangles(1))
+    start = best(path)
+    print(f"{'scene':34} {'bytes':>11} {'seconds':>8} {'MB/s':>8} {'of proc.':>8} {'MB/s':>8} {'MB':>8}")
+    lines, times = triangles(8_000), []
+    for part in (16, 8, 4, 2, 1):
+        size = shapes(path, MAX_BYTES // part, lines)
+        times.append(read(path, "triangles", size, start))
+    for name, line in (("points of the least text", "point 0 0 0 0 0 0 0 0\n"), ("empty lines alone", "\n")):
+        size = shapes(path, MAX_BYTES, [line] * 4_000)
+        read(path, name, size, start)
+    growth = max(after / before for before, after in zip(times, times[1:]))
+    print(f"twice the text takes at most {growth:.2f} times the processor time")
+    if growth > MAX_GROWTH:
+        sys.exit(f"more than {MAX_GROWTH} times: reading isn't linear")
 
 
 def show(folder, name, ranks, side, points):
@@ -59,6 +128,10 @@ def main():
     # the runs inherit these limits: 4 GB of memory, and a stack of 1 MB
     resource.setrlimit(resource.RLIMIT_AS, (4 * 2**30, 4 * 2**30))
     resource.setrlimit(resource.RLIMIT_STACK, (2**20, 2**20))
+    if "--reading" in sys.argv:
+        with tempfile.TemporaryDirectory() as folder:
+            show_reading(folder)
+        return
     print(f"{'scene':34} {'bytes':>11} {'rank-pixels':>11} {'seconds':>8} {'ns/byte':>10} {'ns/rank-px':>10} {'MB':>8}")
     with tempfile.TemporaryDirectory() as folder:
         for points in (250_000, 500_000, 1_000_000):
