@@ -19,7 +19,7 @@ use Rattle.icet_multi.proofs.Distinct.{Apart, EachOnce}
 use Rattle.icet_multi.proofs.Picked.{entry, entries, picked}
 
 -- the exchanges of the programs
-sending_exchanges : (t : ℕ) (x : TileView) (r : ℕ) → exchanges (sending t x r) ≡ sends_for t x r
+pub sending_exchanges : (t : ℕ) (x : TileView) (r : ℕ) → exchanges (sending t x r) ≡ sends_for t x r
 sending_exchanges t x r = go (hands_in x r)
   where
     go : (b : Bool) → exchanges (cond b (Load t 0 ∷ Swap (send_of t x) 0 ∷ []) []) ≡ cond b (send_of t x ∷ []) []
@@ -40,7 +40,7 @@ joins_exchanges : (t : ℕ) (x : TileView) (cs : List ℕ) → exchanges (joins 
 joins_exchanges t x [] = refl
 joins_exchanges t x (c ∷ cs) = ap (λ z. z ++ exchanges (joins t x cs)) (fetch_exchanges t x 1 c) ∙ ap (λ z. cond (c == x.display) [] (take_of t x c ∷ []) ++ z) (joins_exchanges t x cs)
 
-folds_exchanges : (t : ℕ) (x : TileView) (cs : List ℕ) → exchanges (folds t x cs) ≡ takes_in t x cs
+pub folds_exchanges : (t : ℕ) (x : TileView) (cs : List ℕ) → exchanges (folds t x cs) ≡ takes_in t x cs
 folds_exchanges t x [] = refl
 folds_exchanges t x (c ∷ cs) = ap (λ z. z ++ exchanges (joins t x cs)) (fetch_exchanges t x 0 c) ∙ ap (λ z. cond (c == x.display) [] (take_of t x c ∷ []) ++ z) (joins_exchanges t x cs)
 
@@ -65,7 +65,7 @@ all_sends P t xs r h = all_by_tile P (λ n x. sends_for n x r) t xs (all_weaker 
     go n x f true e = (f e, tt)
     go n x f false e = tt
 
-all_takes_in : (P : Exchange → Type 0) (t : ℕ) (x : TileView) (cs : List ℕ) → AllByRecursion (λ c. c ≢ x.display → P (take_of t x c)) cs → AllByRecursion P (takes_in t x cs)
+pub all_takes_in : (P : Exchange → Type 0) (t : ℕ) (x : TileView) (cs : List ℕ) → AllByRecursion (λ c. c ≢ x.display → P (take_of t x c)) cs → AllByRecursion P (takes_in t x cs)
 all_takes_in P t x [] h = tt
 all_takes_in P t x (c ∷ cs) h = all_append P (cond (c == x.display) [] (take_of t x c ∷ [])) (takes_in t x cs) (go (c == x.display) refl) (all_takes_in P t x cs h.1)
   where
@@ -106,7 +106,7 @@ sends_rise t (x ∷ xs) r h =
     (all_weaker (λ y. x.display ≢ y.display) (λ y. (u : ℕ) → hands_in y r ≡ true → Follows (send_of t x) (send_of u y)) (λ y n u g. record { later = omega arith; apart = λ e. absurd (n e) }) xs h.0))
     (sends_rise (suc t) xs r h.1)
 
-takes_in_rise : (t : ℕ) (x : TileView) (cs : List ℕ) → Apart (λ a b. a ≢ b) cs → IsRising (takes_in t x cs)
+pub takes_in_rise : (t : ℕ) (x : TileView) (cs : List ℕ) → Apart (λ a b. a ≢ b) cs → IsRising (takes_in t x cs)
 takes_in_rise t x [] h = tt
 takes_in_rise t x (c ∷ cs) h =
     rising_unless (c == x.display) (take_of t x c) (takes_in t x cs)
@@ -133,10 +133,10 @@ direct_rise : (xs : List TileView) (r : ℕ) → Apart (λ x y. x.display ≢ y.
 direct_rise xs r h once = rising_append 1 0 2 (sends_of 0 xs r) (takes_of 0 xs r) (sends_rise 0 xs r h) (takes_rise 0 xs r h once) (sends_within 0 xs r) (takes_within 0 xs r)
 
 -- what a pair's sends and takes have alike
-abbrev heading_of : ℕ → TileView → Heading
+abbrev pub heading_of : ℕ → TileView → Heading
 heading_of t x = record { round = 0; tile = t; lo = 0; hi = x.size }
 
-abbrev headings_for : ℕ → TileView → ℕ → ℕ → List Heading
+abbrev pub headings_for : ℕ → TileView → ℕ → ℕ → List Heading
 headings_for t x q r = cond ((x.display == r) && hands_in x q) (heading_of t x ∷ []) []
 
 abbrev headings : ℕ → List TileView → ℕ → ℕ → List Heading
@@ -148,14 +148,14 @@ no_heading n x = []
 nothing : (t : ℕ) (xs : List TileView) → by_tile no_heading t xs ≡ []
 nothing t xs = none_by_tile no_heading t xs (always (λ x. (n : ℕ) → no_heading n x ≡ []) (λ x n. refl) xs)
 
-abbrev seen : (Exchange → Bool) → List Exchange → List Heading
+abbrev pub seen : (Exchange → Bool) → List Exchange → List Heading
 seen p es = map heading (filter p es)
 
-seen_append : (p : Exchange → Bool) (xs ys : List Exchange) → seen p (xs ++ ys) ≡ seen p xs ++ seen p ys
+pub seen_append : (p : Exchange → Bool) (xs ys : List Exchange) → seen p (xs ++ ys) ≡ seen p xs ++ seen p ys
 seen_append p xs ys = ap (map heading) (filter-append p xs ys) ∙ map-append heading (filter p xs) (filter p ys)
 
-sends_seen : (t : ℕ) (xs : List TileView) (q r : ℕ) → seen (sends_to r) (sends_of t xs q) ≡ headings t xs q r
-sends_seen t xs q r = image_by_tile (seen (sends_to r)) refl (seen_append (sends_to r)) (λ n x. sends_for n x q) (λ n x. headings_for n x q r) t xs (always (λ x. (n : ℕ) → seen (sends_to r) (sends_for n x q) ≡ headings_for n x q r) (λ x n. go n x (hands_in x q)) xs)
+pub send_seen : (n : ℕ) (x : TileView) (q r : ℕ) → seen (sends_to r) (sends_for n x q) ≡ headings_for n x q r
+send_seen n x q r = go n x (hands_in x q)
   where
     at : (n : ℕ) (x : TileView) (d : Bool) → map heading (cond d (send_of n x ∷ []) []) ≡ cond d (heading_of n x ∷ []) []
     at n x true = refl
@@ -165,12 +165,18 @@ sends_seen t xs q r = image_by_tile (seen (sends_to r)) refl (seen_append (sends
     go n x true = at n x (x.display == r) ∙ ap (λ z. cond z (heading_of n x ∷ []) []) (sym (and-true (x.display == r)))
     go n x false = ap (λ z. cond z (heading_of n x ∷ []) []) (sym (and-false (x.display == r)))
 
-no_takes : (t : ℕ) (xs : List TileView) (q r : ℕ) → seen (takes_from q) (sends_of t xs r) ≡ []
-no_takes t xs q r = image_by_tile (seen (takes_from q)) refl (seen_append (takes_from q)) (λ n x. sends_for n x r) no_heading t xs (always (λ x. (n : ℕ) → seen (takes_from q) (sends_for n x r) ≡ []) (λ x n. go n x (hands_in x r)) xs) ∙ nothing t xs
+sends_seen : (t : ℕ) (xs : List TileView) (q r : ℕ) → seen (sends_to r) (sends_of t xs q) ≡ headings t xs q r
+sends_seen t xs q r = image_by_tile (seen (sends_to r)) refl (seen_append (sends_to r)) (λ n x. sends_for n x q) (λ n x. headings_for n x q r) t xs (always (λ x. (n : ℕ) → seen (sends_to r) (sends_for n x q) ≡ headings_for n x q r) (λ x n. send_seen n x q r) xs)
+
+pub no_take : (n : ℕ) (x : TileView) (q r : ℕ) → seen (takes_from q) (sends_for n x r) ≡ []
+no_take n x q r = go (hands_in x r)
   where
-    go : (n : ℕ) (x : TileView) (b : Bool) → seen (takes_from q) (cond b (send_of n x ∷ []) []) ≡ []
-    go n x true = refl
-    go n x false = refl
+    go : (b : Bool) → seen (takes_from q) (cond b (send_of n x ∷ []) []) ≡ []
+    go true = refl
+    go false = refl
+
+no_takes : (t : ℕ) (xs : List TileView) (q r : ℕ) → seen (takes_from q) (sends_of t xs r) ≡ []
+no_takes t xs q r = image_by_tile (seen (takes_from q)) refl (seen_append (takes_from q)) (λ n x. sends_for n x r) no_heading t xs (always (λ x. (n : ℕ) → seen (takes_from q) (sends_for n x r) ≡ []) (λ x n. no_take n x q r) xs) ∙ nothing t xs
 
 no_sends_in : (t : ℕ) (x : TileView) (cs : List ℕ) (r : ℕ) → seen (sends_to r) (takes_in t x cs) ≡ []
 no_sends_in t x [] r = refl
@@ -180,12 +186,15 @@ no_sends_in t x (c ∷ cs) r = seen_append (sends_to r) (cond (c == x.display) [
     go true = refl
     go false = refl
 
-no_sends : (t : ℕ) (xs : List TileView) (q r : ℕ) → seen (sends_to r) (takes_of t xs q) ≡ []
-no_sends t xs q r = image_by_tile (seen (sends_to r)) refl (seen_append (sends_to r)) (λ n x. takes_for n x q) no_heading t xs (always (λ x. (n : ℕ) → seen (sends_to r) (takes_for n x q) ≡ []) (λ x n. go n x (x.display == q)) xs) ∙ nothing t xs
+pub no_send : (n : ℕ) (x : TileView) (q r : ℕ) → seen (sends_to r) (takes_for n x q) ≡ []
+no_send n x q r = go (x.display == q)
   where
-    go : (n : ℕ) (x : TileView) (b : Bool) → seen (sends_to r) (cond b (takes_in n x x.contributors) []) ≡ []
-    go n x true = no_sends_in n x x.contributors r
-    go n x false = refl
+    go : (b : Bool) → seen (sends_to r) (cond b (takes_in n x x.contributors) []) ≡ []
+    go true = no_sends_in n x x.contributors r
+    go false = refl
+
+no_sends : (t : ℕ) (xs : List TileView) (q r : ℕ) → seen (sends_to r) (takes_of t xs q) ≡ []
+no_sends t xs q r = image_by_tile (seen (sends_to r)) refl (seen_append (sends_to r)) (λ n x. takes_for n x q) no_heading t xs (always (λ x. (n : ℕ) → seen (sends_to r) (takes_for n x q) ≡ []) (λ x n. no_send n x q r) xs) ∙ nothing t xs
 
 takes_in_seen : (t : ℕ) (x : TileView) (cs : List ℕ) (q : ℕ) → seen (takes_from q) (takes_in t x cs) ≡ entries x.display (λ c. heading_of t x) q cs
 takes_in_seen t x [] q = refl
@@ -199,12 +208,15 @@ takes_in_seen t x (c ∷ cs) q = seen_append (takes_from q) (cond (c == x.displa
     go true = refl
     go false = at (c == q)
 
-takes_seen : (t : ℕ) (xs : List TileView) (q r : ℕ) → EachOnce xs → seen (takes_from q) (takes_of t xs r) ≡ headings t xs q r
-takes_seen t xs q r once = image_by_tile (seen (takes_from q)) refl (seen_append (takes_from q)) (λ n x. takes_for n x r) (λ n x. headings_for n x q r) t xs (all_weaker (λ x. Apart (λ a b. a ≢ b) x.contributors) (λ x. (n : ℕ) → seen (takes_from q) (takes_for n x r) ≡ headings_for n x q r) (λ x o n. go n x o (x.display == r)) xs once)
+pub take_seen : (n : ℕ) (x : TileView) (q r : ℕ) → Apart (λ a b. a ≢ b) x.contributors → seen (takes_from q) (takes_for n x r) ≡ headings_for n x q r
+take_seen n x q r o = go (x.display == r)
   where
-    go : (n : ℕ) (x : TileView) → Apart (λ a b. a ≢ b) x.contributors → (b : Bool) → seen (takes_from q) (cond b (takes_in n x x.contributors) []) ≡ cond (b && hands_in x q) (heading_of n x ∷ []) []
-    go n x o true = takes_in_seen n x x.contributors q ∙ picked x.display (λ c. heading_of n x) q x.contributors o
-    go n x o false = refl
+    go : (b : Bool) → seen (takes_from q) (cond b (takes_in n x x.contributors) []) ≡ cond (b && hands_in x q) (heading_of n x ∷ []) []
+    go true = takes_in_seen n x x.contributors q ∙ picked x.display (λ c. heading_of n x) q x.contributors o
+    go false = refl
+
+takes_seen : (t : ℕ) (xs : List TileView) (q r : ℕ) → EachOnce xs → seen (takes_from q) (takes_of t xs r) ≡ headings t xs q r
+takes_seen t xs q r once = image_by_tile (seen (takes_from q)) refl (seen_append (takes_from q)) (λ n x. takes_for n x r) (λ n x. headings_for n x q r) t xs (all_weaker (λ x. Apart (λ a b. a ≢ b) x.contributors) (λ x. (n : ℕ) → seen (takes_from q) (takes_for n x r) ≡ headings_for n x q r) (λ x o n. take_seen n x q r o) xs once)
 
 direct_pairs : (xs : List TileView) (q r : ℕ) → EachOnce xs → seen (sends_to r) (direct_exchanges xs q) ≡ seen (takes_from q) (direct_exchanges xs r)
 direct_pairs xs q r once =
@@ -223,7 +235,7 @@ direct_matched xs h once = record {
 }
 
 -- each peer is another rank
-not_display : (x : TileView) (r : ℕ) → hands_in x r ≡ true → x.display ≢ r
+pub not_display : (x : TileView) (r : ℕ) → hands_in x r ≡ true → x.display ≢ r
 not_display x r h e = go (has r x.contributors) h
   where
     same : (r == x.display) ≡ true

@@ -2,6 +2,7 @@
 use Rattle.std.proofs.Common.{◌≡◌, ℕ, suc, Bool, true, false, cond, List, [], ◌∷◌, ◌++◌, map, refl, sym, ap, ◌∙◌, subst, arith, eqb-true, Option, Some, None}
 use Rattle.std.specs.Prelude.{◌==◌, ◌&&◌, ◌≢◌}
 use Rattle.std.proofs.lemmas.List.{append-nil}
+use Rattle.std.specs.List.{slice_get}
 use Rattle.std.proofs.Math.Bool.{and-true, and-false}
 use mathlib.Core.Path.{fun_ext}
 use Rattle.icet_model.specs.declared.bracket.Bracket.{Bracket}
@@ -17,7 +18,7 @@ use Rattle.icet_plan.proofs.SingleSteps.{does_as, load_does, blank_does, join_do
 use Rattle.icet_multi.specs.Direct.{TileView, by_tile, hands_in, tile_bracket, image_message, messages_for, messages_from, direct_messages, send_of, take_of, sending, fetch, joins, folds, showing, sendings, showings, direct_program}
 use Rattle.icet_multi.proofs.Distinct.{Apart, EachOnce}
 use Rattle.icet_multi.proofs.Picked.{entry, entries, picked}
-use Rattle.icet_multi.proofs.OnTiles.{IsOn, AreOn}
+use Rattle.icet_multi.proofs.OnTiles.{AreOn, IsOn, IsSized, sized}
 
 abbrev pub Slots : Type 0
 Slots = ℕ → Option (Piece Bracket)
@@ -54,11 +55,11 @@ module _ (tiles : Tiles) (brackets : List Bracket) (r : ℕ) where
   part_both : (xs ys : List Op) (a b : ℕ → List (MessageView Bracket)) (sl : Slots) (S R : ℕ → List (MessageView Bracket)) (K L : List (Piece Bracket)) → Part xs a sl S K → ((s : Slots) → Part ys b s R L) → Part (xs ++ ys) (λ p. a p ++ b p) sl (λ q. S q ++ R q) (K ++ L)
   part_both xs ys a b sl S R K L f g = let h = g f.after in record { after = h.after; does = does_both c r tiles xs ys a b sl f.after h.after S R K L f.does h.does }
 
-  own_whole : (t : ℕ) (x : TileView) → IsOn tiles brackets t x → whole c t ≡ piece_of t x (Leaf r)
+  own_whole : (t : ℕ) (x : TileView) → IsSized tiles t x → whole c t ≡ piece_of t x (Leaf r)
   own_whole t x on = ap (λ n. record { tile = t; lo = 0; hi = n; content = Leaf r }) on.size
 
   -- a rank that hands in sends its image, and no other does anything
-  sending_runs : (t : ℕ) (x : TileView) → IsOn tiles brackets t x → (sl : Slots) → Part (sending t x r) nothing sl (messages_for t x r) []
+  pub sending_runs : (t : ℕ) (x : TileView) → IsSized tiles t x → (sl : Slots) → Part (sending t x r) nothing sl (messages_for t x r) []
   sending_runs t x on sl = go (hands_in x r)
     where
       go : (b : Bool) → Part (cond b (Load t 0 ∷ Swap (send_of t x) 0 ∷ []) []) nothing sl (λ q. cond ((x.display == q) && b) (image_message t x r ∷ []) []) []
@@ -78,18 +79,18 @@ module _ (tiles : Tiles) (brackets : List Bracket) (r : ℕ) where
 
   sendings_run : (t : ℕ) (xs : List TileView) → AreOn tiles brackets t xs → (sl : Slots) → Part (sendings t xs r) nothing sl (messages_from t xs r) []
   sendings_run t [] on sl = part_nothing sl
-  sendings_run t (x ∷ xs) on sl = part_both (sending t x r) (sendings (suc t) xs r) nothing nothing sl (messages_for t x r) (messages_from (suc t) xs r) [] [] (sending_runs t x on.0 sl) (λ s. sendings_run (suc t) xs on.1 s)
+  sendings_run t (x ∷ xs) on sl = part_both (sending t x r) (sendings (suc t) xs r) nothing nothing sl (messages_for t x r) (messages_from (suc t) xs r) [] [] (sending_runs t x (sized tiles brackets t x on.0) sl) (λ s. sendings_run (suc t) xs on.1 s)
 
-  module _ (t : ℕ) (x : TileView) (on : IsOn tiles brackets t x) (mine : x.display ≡ r) where
+  module _ (t : ℕ) (x : TileView) (on : IsSized tiles t x) (mine : x.display ≡ r) where
     -- the messages that the display takes for these contributors
-    abbrev taken_in : List ℕ → ℕ → List (MessageView Bracket)
+    abbrev pub taken_in : List ℕ → ℕ → List (MessageView Bracket)
     taken_in cs p = entries x.display (image_message t x) p cs
 
     -- slot 0 holds the images of the tile in this bracket
-    record Folded (ops : List Op) (cs : List ℕ) (sl : Slots) (b : Bracket) : Type 0 where
-      after : Slots
-      does : Does c r tiles ops (taken_in cs) sl after nothing []
-      holds : after 0 ≡ Some (piece_of t x b)
+    pub record Folded (ops : List Op) (cs : List ℕ) (sl : Slots) (b : Bracket) : Type 0 where
+      pub after : Slots
+      pub does : Does c r tiles ops (taken_in cs) sl after nothing []
+      pub holds : after 0 ≡ Some (piece_of t x b)
 
     fetch_runs : (slot q : ℕ) (sl : Slots) → Does c r tiles (fetch t x slot q ∷ []) (λ p. entry x.display (image_message t x) p q) sl (put sl slot (Some (piece_of t x (Leaf q)))) nothing []
     fetch_runs slot q sl = go (q == x.display) refl
@@ -119,21 +120,21 @@ module _ (tiles : Tiles) (brackets : List Bracket) (r : ℕ) where
           holds = rest.holds;
         }
 
-    folds_run : (cs : List ℕ) (sl : Slots) → Folded (folds t x cs) cs sl (left (map (λ a. Leaf a) cs))
+    pub folds_run : (cs : List ℕ) (sl : Slots) → Folded (folds t x cs) cs sl (left (map (λ a. Leaf a) cs))
     folds_run [] sl = record { after = put sl 0 (Some (piece_of t x Empty)); does = subst (λ n. Does c r tiles (Blank t 0 ∷ []) nothing sl (put sl 0 (Some (record { tile = t; lo = 0; hi = n; content = Empty }))) nothing []) on.size (blank_does c r tiles t 0 sl on.within); holds = refl }
     folds_run (q ∷ cs) sl =
         let fetched : Slots = put sl 0 (Some (piece_of t x (Leaf q))) in
         let rest = joins_run cs (Leaf q) fetched refl in
         record { after = rest.after; does = does_both c r tiles (fetch t x 0 q ∷ []) (joins t x cs) (λ a. entry x.display (image_message t x) a q) (taken_in cs) sl fetched rest.after nothing nothing [] [] (fetch_runs 0 q sl) rest.does; holds = rest.holds }
 
-    shown : (sl : Slots) → Part (folds t x x.contributors ++ Keep 0 ∷ []) (taken_in x.contributors) sl nothing (piece_of t x (tile_bracket x) ∷ [])
-    shown sl =
+    shown : slice_get tiles.displays t ≡ Some x.display → (sl : Slots) → Part (folds t x x.contributors ++ Keep 0 ∷ []) (taken_in x.contributors) sl nothing (piece_of t x (tile_bracket x) ∷ [])
+    shown display sl =
         let run = folds_run x.contributors sl in
         part_as (folds t x x.contributors ++ Keep 0 ∷ []) (λ p. taken_in x.contributors p ++ []) (taken_in x.contributors) sl nothing nothing (piece_of t x (tile_bracket x) ∷ []) (fun_ext (λ p. append-nil (taken_in x.contributors p))) refl
         (record {
           after = run.after;
           does = does_both c r tiles (folds t x x.contributors) (Keep 0 ∷ []) (taken_in x.contributors) nothing sl run.after run.after nothing nothing [] (piece_of t x (tile_bracket x) ∷ []) run.does
-              (keep_does c r tiles 0 (piece_of t x (tile_bracket x)) run.after run.holds (on.display ∙ ap (λ d. Some d) mine));
+              (keep_does c r tiles 0 (piece_of t x (tile_bracket x)) run.after run.holds (display ∙ ap (λ d. Some d) mine));
         })
 
   -- the display takes what the contributors hand in, and keeps their images in the tile's bracket
@@ -144,7 +145,7 @@ module _ (tiles : Tiles) (brackets : List Bracket) (r : ℕ) where
       go true e =
           let mine = eqb-true x.display r e in
           part_as (folds t x x.contributors ++ Keep 0 ∷ []) (λ p. entries x.display (image_message t x) p x.contributors) (λ p. cond (hands_in x p) (image_message t x p ∷ []) []) sl nothing nothing (piece_of t x (tile_bracket x) ∷ [])
-          (fun_ext (λ p. picked x.display (image_message t x) p x.contributors once)) refl (shown t x on mine sl)
+          (fun_ext (λ p. picked x.display (image_message t x) p x.contributors once)) refl (shown t x (sized tiles brackets t x on) mine on.display sl)
       go false e = part_nothing sl
 
   showings_run : (t : ℕ) (xs : List TileView) → AreOn tiles brackets t xs → EachOnce xs → (sl : Slots) → Part (showings t xs r) (λ p. messages_from t xs p r) sl nothing (kept_from t xs r)

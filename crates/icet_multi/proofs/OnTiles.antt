@@ -6,12 +6,20 @@ use Rattle.icet_model.specs.declared.bracket.Bracket.TheVariants.{Empty}
 use Rattle.icet_model.specs.Fit.{Tiles}
 use Rattle.icet_multi.specs.Direct.{TileView, tile_bracket}
 
+-- tile t of the plan has as many pixels as this one
+pub record IsSized (tiles : Tiles) (t : ℕ) (x : TileView) : Type 0 where
+  pub within : t < length tiles.sizes
+  pub size : get_or tiles.sizes t 0 ≡ x.size
+
 -- tile t of the plan is this one
 pub record IsOn (tiles : Tiles) (brackets : List Bracket) (t : ℕ) (x : TileView) : Type 0 where
   pub within : t < length tiles.sizes
   pub size : get_or tiles.sizes t 0 ≡ x.size
   pub display : slice_get tiles.displays t ≡ Some x.display
   pub bracket : get_or brackets t Empty ≡ tile_bracket x
+
+pub sized : (tiles : Tiles) (brackets : List Bracket) (t : ℕ) (x : TileView) → IsOn tiles brackets t x → IsSized tiles t x
+sized tiles brackets t x on = record { within = on.within; size = on.size }
 
 -- so are all from tile t on
 abbrev pub AreOn : Tiles → List Bracket → ℕ → List TileView → Type 0

@@ -7,6 +7,7 @@ pub mod laws;
 pub mod planning;
 pub mod sequential;
 pub mod settings;
+pub mod single;
 pub mod tile;
 
 pub use icet_groups::TileRanks;

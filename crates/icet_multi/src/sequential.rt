@@ -1,7 +1,6 @@
-ghost use Rattle.std.specs.Prelude.{◌≡◌, ◌≤◌, ◌<◌, ◌^◌, ◌*◌, ◌≢◌, AllPairs, IfOk, length, map};
-ghost use Rattle.icet_legs.specs.Task.{StandsIn};
+ghost use Rattle.std.specs.Prelude.{◌≡◌, ◌≤◌, ◌<◌, ◌^◌, ◌*◌, IfOk, length, map};
 ghost use Rattle.std.specs.List.{AllByRecursion};
-ghost use Rattle.icet_legs.specs.Leg.{IsExchangePlan, IsPlanFor};
+ghost use Rattle.icet_legs.specs.Leg.{IsExchangePlan};
 ghost use Rattle.icet_legs.specs.Team.{team_of};
 ghost use Rattle.icet_tiles.specs.Contributors.{HasEachOnce};
 ghost use Rattle.icet_multi.specs.Rules.{IsPlanBy, sequential_rule, strategy_of};
@@ -10,6 +9,7 @@ ghost use Rattle.icet_legs.specs.InRow.{tile_leg};
 ghost use Rattle.icet_model.specs.declared.limits.TheConstants.{MAX_RANKS, MAX_TILES};
 
 use crate::settings::Single;
+use crate::single::exchange_plan;
 use crate::tile::leaves;
 use icet_base::{NoMemory, Rank};
 use icet_groups::TileRanks;
@@ -112,38 +112,4 @@ fn leg_of(
         single,
         k,
     )
-}
-
-// the leg of a tile by the chosen strategy
-fn exchange_plan(
-    alloc: Global,
-    order: &[Rank],
-    leaves: &[Bracket],
-    tile: u32,
-    pixels: u32,
-    display: Rank,
-    first: u32,
-    single: Single,
-    k: u32,
-) -> Result<Leg, NoMemory>
-    requires distinct { AllPairs (λ a b. a ≢ b) order.now }
-    requires low { length order.now ≤ MAX_RANKS }
-    requires leaves { length leaves.now ≡ length order.now }
-    requires display { StandsIn order.now display }
-    requires small { pixels < 2 ^ 31 }
-    requires early { first < 2 ^ 31 }
-    requires split { 2 ≤ k }
-    ensures { IfOk result (IsPlanFor (strategy_of single k) order.now leaves.now tile pixels first display) }
-{
-    match single {
-        Single::Tree => icet_tree::exchange_plan(
-            alloc, order, leaves, tile, pixels, display, first,
-        ),
-        Single::Bswap => icet_bswap::exchange_plan(
-            alloc, order, leaves, tile, pixels, display, first,
-        ),
-        Single::Radixk => {
-            icet_radixk::exchange_plan(alloc, order, leaves, tile, pixels, display, first, k)
-        }
-    }
 }
