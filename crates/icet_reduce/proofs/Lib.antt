@@ -1,2 +1,14 @@
+pub mod BlanksRun
+pub mod BlocksMatched
+pub mod BlocksRun
+pub mod EachOf
 pub mod FilledLegs
+pub mod GroupLegs
+pub mod GroupMembers
+pub mod GroupsRun
+pub mod Growing
+pub mod ReducedPlan
+pub mod ReducePrograms
 pub mod ReduceLeaves
+pub mod SeatsFor
+pub mod StrategyLoads

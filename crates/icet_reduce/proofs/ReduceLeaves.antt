@@ -32,7 +32,7 @@ in_range a zero t l = absurd (omega (arith, l))
 in_range a (suc n) zero l = ap Some (let z : a ≡ a + 0 = omega arith in z)
 in_range a (suc n) (suc t) l = in_range (a + 1) n t (omega (arith, l)) ∙ ap Some (let z : a + 1 + t ≡ a + suc t = omega arith in z)
 
-count_at : (tiles : List TileView) (t : ℕ) → get_or (counts_of tiles) t 0 ≡ length (tile_of tiles t).contributors
+pub count_at : (tiles : List TileView) (t : ℕ) → get_or (counts_of tiles) t 0 ≡ length (tile_of tiles t).contributors
 count_at [] t = refl
 count_at (x ∷ xs) zero = refl
 count_at (x ∷ xs) (suc t) = count_at xs t

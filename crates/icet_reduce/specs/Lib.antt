@@ -1,3 +1,4 @@
 pub mod FilledSlot
 pub mod Reduce
+pub mod Reduced
 pub mod ReduceSamples
