@@ -1,5 +1,5 @@
 -- The displays of tiles to which nobody contributes keep them blank.
-use Rattle.std.proofs.Common.{◌≡◌, ℕ, zero, suc, ◌<◌, ◌≤◌, Bool, true, false, cond, List, [], ◌∷◌, ◌++◌, map, length, get_or, refl, sym, ap, ◌∙◌, subst, arith, eqb-true, Some}
+use Rattle.std.proofs.Common.{◌≡◌, ℕ, zero, suc, ◌<◌, Bool, true, false, cond, List, [], ◌∷◌, length, get_or, refl, ap, ◌∙◌, arith, eqb-true, Some}
 use Rattle.std.proofs.lemmas.List.{length-map}
 use Rattle.std.specs.Prelude.{◌==◌, nat_lt}
 use Rattle.std.specs.List.{slice_get}
@@ -8,7 +8,6 @@ use Rattle.icet_model.specs.declared.bracket.Bracket.TheVariants.{Empty}
 use Rattle.icet_model.specs.declared.exchange.Op.{Op}
 use Rattle.icet_model.specs.declared.exchange.Op.TheVariants.{Blank, Keep}
 use Rattle.icet_model.specs.Exchange.{exchanges}
-use Rattle.icet_model.specs.Fit.{Tiles}
 use Rattle.icet_model.specs.Plan.{bracket_carrier}
 use Rattle.icet_model.specs.Run.{Carrier, Piece, blank_of, put}
 use Rattle.icet_plan.specs.Each.{each}

@@ -1,19 +1,17 @@
 -- Round 0: the exchanges of its programs, and that sends and takes go together.
-use Rattle.std.proofs.Common.{◌≡◌, ◌≢◌, ℕ, zero, suc, ◌*◌, ◌<◌, ◌≤◌, Bool, true, false, cond, List, [], ◌∷◌, ◌++◌, map, length, get_or, refl, sym, ap, ◌∙◌, subst, arith, eqb-true}
+use Rattle.std.proofs.Common.{◌≡◌, ◌≢◌, ℕ, ◌<◌, ◌≤◌, Bool, true, false, cond, List, [], ◌∷◌, ◌++◌, length, get_or, refl, sym, ap, ◌∙◌, subst, arith, eqb-true}
 use Rattle.std.proofs.lemmas.List.{append-nil}
 use Rattle.std.specs.Prelude.{◌==◌}
 use Rattle.std.specs.List.{AllByRecursion}
 use Rattle.icet_model.specs.declared.exchange.Exchange.{Exchange}
-use Rattle.icet_model.specs.declared.exchange.Op.{Op}
-use Rattle.icet_model.specs.Exchange.{Follows, Heading, IsRising, exchanges, key, sends_to, takes_from}
+use Rattle.icet_model.specs.Exchange.{Heading, IsRising, exchanges, key, sends_to, takes_from}
 use Rattle.icet_model.specs.Matched.{HasPeerIn}
 use Rattle.icet_plan.specs.Each.{each}
 use Rattle.icet_plan.proofs.Lists.{all_weaker}
 use Rattle.icet_plan.proofs.LocalRuns.{exchanges-append}
 use Rattle.icet_plan.proofs.Segments.{AreWithin, IsPart, all_append, rising_append}
-use Rattle.icet_groups.specs.Tiles.{IsTile, TileView, has}
+use Rattle.icet_groups.specs.Tiles.{TileView, has}
 use Rattle.icet_legs.proofs.LegsInRow.{all_each}
-use Rattle.icet_legs.proofs.EachMore.{each_same}
 use Rattle.icet_multi.specs.Direct.{folds, hands_in, send_of, sending, sends_for, take_of, takes_for, takes_in}
 use Rattle.icet_multi.specs.Rules.{tile_of}
 use Rattle.icet_multi.proofs.ByTile.{always}

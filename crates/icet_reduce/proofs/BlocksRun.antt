@@ -1,5 +1,5 @@
 -- Round 0: each rank sends the images that its blocks' members are to fold, and each member has the fold of its block.
-use Rattle.std.proofs.Common.{◌≡◌, ◌≢◌, ℕ, zero, suc, ◌+◌, ◌<◌, ◌≤◌, Bool, true, false, cond, List, [], ◌∷◌, ◌++◌, map, length, get_or, refl, sym, ap, ◌∙◌, subst, arith, eqb-true, eq-eqb, Option, Some, None, ⊎_elim}
+use Rattle.std.proofs.Common.{◌≡◌, ℕ, zero, suc, ◌<◌, Bool, true, false, cond, List, [], ◌∷◌, ◌++◌, map, length, get_or, refl, sym, ap, ◌∙◌, subst, arith, eqb-true, eq-eqb, Some, ⊎_elim}
 use Rattle.std.proofs.lemmas.List.{append-nil, length-map}
 use Rattle.std.proofs.lemmas.List.FromFn.{get_or-map-range_with_len}
 use Rattle.std.specs.Prelude.{◌==◌, ◌&&◌, ◌⊎◌}
@@ -9,7 +9,7 @@ use Rattle.icet_model.specs.declared.bracket.Bracket.TheVariants.{Empty}
 use Rattle.icet_model.specs.declared.exchange.Op.{Op}
 use Rattle.icet_model.specs.Fit.{Tiles}
 use Rattle.icet_model.specs.Plan.{bracket_carrier}
-use Rattle.icet_model.specs.Run.{Carrier, MessageView, Piece}
+use Rattle.icet_model.specs.Run.{Carrier, MessageView}
 use Rattle.icet_plan.specs.Each.{each}
 use Rattle.icet_plan.proofs.Segments.{Does, does_both, does_nothing}
 use Rattle.icet_plan.proofs.SingleSteps.{does_as, Ran}
@@ -114,10 +114,13 @@ module _ (ranks : ℕ) (tiles : List TileView) (groups : List (List ℕ)) (are :
       go false e = record {
         after = sl;
         does = does_nothing c r (tiles_of tiles) sl;
-        holds = (i.0, λ p k at. ⊎_elim
-            (λ (z : p < j). i.1 p z at)
-            (λ (z : p ≡ j). absurd (let s = stands ranks tiles groups are t r p at in let y : (block t j).display ≡ r = ap (λ v. get_or (group t) v 0) (sym z) ∙ s.0 in let w = eq-eqb (block t j).display r y in let q : true ≡ false = sym w ∙ e in cc))
-            (let z : (p < j) ⊎ (p ≡ j) = grind (arith, k) in z));
+        holds = (
+          i.0,
+          λ p k at. ⊎_elim
+              (λ (z : p < j). i.1 p z at)
+              (λ (z : p ≡ j). absurd (let s = stands ranks tiles groups are t r p at in let y : (block t j).display ≡ r = ap (λ v. get_or (group t) v 0) (sym z) ∙ s.0 in let w = eq-eqb (block t j).display r y in let q : true ≡ false = sym w ∙ e in cc))
+              (let z : (p < j) ⊎ (p ≡ j) = grind (arith, k) in z),
+        );
       }
 
   tile_runs : (t : ℕ) → t < length tiles → (sl : Slots) → HoldsBefore t sl → Ran c r (tiles_of tiles) (HoldsBefore (suc t)) (each (λ j. folding t (block t j) r) (length (group t))) (λ q. each (λ j. messages_for t (block t j) q r) (length (group t))) sl nothing []

@@ -1,5 +1,5 @@
 -- A leg runs on from a piece in slot 0.
-use Rattle.std.proofs.Common.{◌≡◌, ℕ, zero, suc, Bool, true, false, cond, List, [], ◌∷◌, ◌++◌, length, get_or, refl, sym, ap, ◌∙◌, subst, arith, eqb-true, Option, Some, None}
+use Rattle.std.proofs.Common.{◌≡◌, ℕ, zero, suc, Bool, true, false, cond, List, [], ◌∷◌, ◌++◌, get_or, refl, sym, ap, ◌∙◌, subst, arith, eqb-true, Option, Some, None}
 use Rattle.std.specs.Prelude.{◌==◌}
 use Rattle.icet_model.specs.declared.bracket.Bracket.{Bracket}
 use Rattle.icet_model.specs.declared.bracket.Bracket.TheVariants.{Empty, Leaf}
@@ -8,7 +8,7 @@ use Rattle.icet_model.specs.declared.exchange.Op.TheVariants.{Load}
 use Rattle.icet_model.specs.Fit.{AllFit, Tiles}
 use Rattle.icet_model.specs.Flow.{Messages}
 use Rattle.icet_model.specs.Plan.{bracket_carrier}
-use Rattle.icet_model.specs.Run.{Carrier, Local, MessageView, Piece, fresh, put, run, step, whole}
+use Rattle.icet_model.specs.Run.{Carrier, Local, MessageView, Piece, fresh, run, step, whole}
 use Rattle.icet_plan.proofs.Shapes.{fits_anyhow}
 use Rattle.icet_legs.specs.Leg.{IsLeg, leaf_carrier, leg_end}
 use Rattle.icet_legs.specs.Team.{Team, by_pos, loaded}

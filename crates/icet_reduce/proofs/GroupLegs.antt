@@ -1,5 +1,5 @@
 -- The legs of groups as they are made, and that programs of them are the strategy's.
-use Rattle.std.proofs.Common.{◌≡◌, ◌≢◌, ℕ, zero, suc, ◌+◌, ◌*◌, ◌^◌, ◌<◌, ◌≤◌, Bool, true, false, cond, List, [], ◌∷◌, ◌++◌, map, length, length-append, get_or, refl, sym, ap, ◌∙◌, subst, arith, Option, Some, None, ⊎_elim}
+use Rattle.std.proofs.Common.{◌≡◌, ℕ, zero, suc, ◌+◌, ◌^◌, ◌<◌, true, false, cond, List, [], ◌∷◌, ◌++◌, map, length, length-append, get_or, refl, sym, ap, ◌∙◌, subst, arith, Option, Some, None, ⊎_elim}
 use Rattle.std.proofs.lemmas.Bool.Decides.{nat_tests}
 use Rattle.std.proofs.lemmas.List.{length-map}
 use Rattle.std.proofs.lemmas.List.FromFn.{get_or-map-range_with_len, length-map-range_with_len}
@@ -13,13 +13,13 @@ use Rattle.icet_plan.specs.declared.plan.Leg.{Leg}
 use Rattle.icet_groups.specs.Tiles.{TileView}
 use Rattle.icet_legs.specs.Leg.{IsLegOf, IsPlanFor}
 use Rattle.icet_legs.specs.Team.{by_pos, place_in}
-use Rattle.icet_legs.specs.TileStrategy.{TileStrategy, leaves_of, ops_of}
+use Rattle.icet_legs.specs.TileStrategy.{TileStrategy, ops_of}
 use Rattle.icet_legs.proofs.EachMore.{each_same}
 use Rattle.icet_legs.proofs.ListTeams.{get_from, leaves_are, list_team}
 use Rattle.icet_multi.specs.Direct.{tile_bracket}
 use Rattle.icet_multi.specs.Rules.{tile_of}
 use Rattle.icet_reduce.specs.Reduce.{block_brackets, block_tile, display_in, group_team, reduce_bracket, reduce_brackets}
-use Rattle.icet_reduce.specs.Reduced.{AllHaveSeats, AreGroupLegs, AreGroupsFor, HaveSeats, IsGroupFor, IsGroupLeg, all_legs, leg_part, programs_in, team_for}
+use Rattle.icet_reduce.specs.Reduced.{AllHaveSeats, AreGroupLegs, HaveSeats, IsGroupFor, IsGroupLeg, all_legs, leg_part, programs_in, team_for}
 use Rattle.icet_reduce.proofs.GroupMembers.{AreSeats, group_apart, stands}
 use Rattle.icet_reduce.proofs.GroupsRun.{IsLegAt, leg_at}
 use Rattle.icet_reduce.proofs.Growing.{listed, tile_same}

@@ -1,17 +1,16 @@
 -- Blocks are tiles of their own, and in groups for tiles each rank has one seat at most.
-use Rattle.std.proofs.Common.{◌≡◌, ◌≢◌, ℕ, zero, suc, ◌-◌, ◌<◌, ◌≤◌, Bool, true, false, List, [], ◌∷◌, length, get_or, take, drop, refl, sym, ap, ◌∙◌, subst, arith, eq-eqb, Option, Some, None, ⊎_elim}
+use Rattle.std.proofs.Common.{◌≡◌, ◌≢◌, ℕ, zero, suc, ◌-◌, ◌<◌, ◌≤◌, Bool, true, false, List, [], ◌∷◌, length, get_or, take, drop, refl, sym, ap, ◌∙◌, subst, arith, eq-eqb, Some, ⊎_elim}
 use Rattle.std.proofs.lemmas.List.{get_or_past}
 use Rattle.std.proofs.lemmas.List.Elements.{All-from_recursion}
 use Rattle.std.proofs.lemmas.List.Kept.{AllPairs-cons}
 use Rattle.std.specs.Prelude.{◌==◌, ◌||◌, ◌⊎◌, AllPairs}
 use Rattle.std.specs.List.{AllByRecursion}
 use Rattle.icet_model.proofs.Lists.{no_pairs}
-use Rattle.icet_groups.specs.Blocks.{block_of, block_start}
+use Rattle.icet_groups.specs.Blocks.{block_start}
 use Rattle.icet_groups.specs.Tiles.{IsTile, TileView, has}
-use Rattle.icet_legs.specs.Team.{IsTeam, place_in, team_of}
+use Rattle.icet_legs.specs.Team.{place_in}
 use Rattle.icet_legs.proofs.ListTeams.{all_get_or, list_team}
 use Rattle.icet_legs.proofs.ListTeams as lists
-use Rattle.icet_multi.specs.Rules.{tile_of}
 use Rattle.icet_multi.proofs.Distinct.{Apart, apart_from_pairs}
 use Rattle.icet_reduce.specs.Reduce.{block_tile}
 use Rattle.icet_reduce.specs.Reduced.{AreGroupsFor, IsGroupFor}

@@ -1,22 +1,19 @@
 -- Behind round 0: each group's leg goes on from its members' folds, and all groups work at once.
-use Rattle.std.proofs.Common.{◌≡◌, ◌≢◌, ℕ, zero, suc, ◌+◌, ◌*◌, ◌^◌, ◌<◌, ◌≤◌, Bool, true, false, cond, List, [], ◌∷◌, ◌++◌, map, length, get_or, refl, sym, ap, ◌∙◌, subst, arith, eqb-true, Option, Some, None, ⊎_elim, inl, inr}
-use Rattle.std.proofs.lemmas.Bool.Decides.{nat_tests}
-use Rattle.std.proofs.lemmas.List.{append-nil, length-map}
+use Rattle.std.proofs.Common.{◌≡◌, ◌≢◌, ℕ, zero, suc, ◌+◌, ◌*◌, ◌^◌, ◌<◌, ◌≤◌, List, [], ◌∷◌, map, length, get_or, refl, sym, ap, ◌∙◌, subst, arith, Option, Some, None, ⊎_elim, inl, inr}
+use Rattle.std.proofs.lemmas.List.{length-map}
 use Rattle.std.proofs.lemmas.List.FromFn.{length-map-range_with_len}
-use Rattle.std.specs.Prelude.{◌==◌, ◌⊎◌, nat_lt}
-use Rattle.std.specs.List.{AllByRecursion, filter, slice_get}
+use Rattle.std.specs.Prelude.{◌⊎◌}
+use Rattle.std.specs.List.{AllByRecursion, filter}
 use mathlib.Core.Path.{fun_ext}
 use Rattle.icet_model.specs.declared.bracket.Bracket.{Bracket}
-use Rattle.icet_model.specs.declared.bracket.Bracket.TheVariants.{Empty}
 use Rattle.icet_model.specs.declared.exchange.Kind.{Kind}
 use Rattle.icet_model.specs.declared.exchange.Kind.TheVariants.{Send, Take}
 use Rattle.icet_model.specs.declared.exchange.Exchange.{Exchange}
 use Rattle.icet_model.specs.declared.exchange.Op.{Op}
-use Rattle.icet_model.specs.declared.exchange.Op.TheVariants.{Blank, Keep}
 use Rattle.icet_model.specs.Exchange.{IsRising, exchanges, heading, key, key_of, sends_to, takes_from}
 use Rattle.icet_model.specs.Matched.{HasPeerIn}
 use Rattle.icet_model.specs.Plan.{bracket_carrier}
-use Rattle.icet_model.specs.Run.{Carrier, Local, MessageView, Piece, blank_of, put, run}
+use Rattle.icet_model.specs.Run.{Carrier, Local, run}
 use Rattle.icet_plan.specs.Each.{each}
 use Rattle.icet_plan.proofs.CarrierImages.{local_same}
 use Rattle.icet_plan.proofs.FlowIsOne.{AreMatched}
@@ -39,11 +36,11 @@ use Rattle.icet_multi.proofs.DirectRuns.{Slots, nothing}
 use Rattle.icet_multi.proofs.OnTiles.{tiles_of}
 use Rattle.icet_reduce.specs.FilledSlot.{RunsLeg, leaf_piece}
 use Rattle.icet_reduce.specs.Reduce.{block_brackets, block_tile, display_in, group_team}
-use Rattle.icet_reduce.specs.Reduced.{IsGroupFor, IsGroupLeg, team_for}
+use Rattle.icet_reduce.specs.Reduced.{team_for}
 use Rattle.icet_reduce.proofs.BlocksRun.{HoldsBefore, get_mapped}
 use Rattle.icet_reduce.proofs.EachOf.{each_none}
 use Rattle.icet_reduce.proofs.FilledLegs.{legs_begin}
-use Rattle.icet_reduce.proofs.GroupMembers.{AreSeats, group_apart, no_group, one_group, seat_within, stands}
+use Rattle.icet_reduce.proofs.GroupMembers.{AreSeats, group_apart, one_group, stands}
 
 -- the leg of the group of tile t
 pub record IsLegAt (s : TileStrategy) (ranks : ℕ) (tiles : List TileView) (groups : List (List ℕ)) (t : ℕ) : Type 0 where

@@ -1,5 +1,5 @@
 -- Drafts that grow, rank by rank.
-use Rattle.std.proofs.Common.{◌≡◌, ◌≢◌, ℕ, zero, suc, ◌+◌, ◌*◌, ◌^◌, ◌<◌, ◌≤◌, Bool, true, false, cond, List, [], ◌∷◌, ◌++◌, map, length, length-append, get_or, set, take, refl, sym, ap, ◌∙◌, subst, arith, add-one, eqb-true, eq-eqb, Option, Some, None, ⊎_elim}
+use Rattle.std.proofs.Common.{◌≡◌, ◌≢◌, ℕ, zero, suc, ◌+◌, ◌<◌, ◌≤◌, Bool, true, false, cond, List, [], ◌∷◌, ◌++◌, map, length, get_or, take, refl, sym, ap, ◌∙◌, subst, arith, add-one, eqb-true, eq-eqb, Option, Some, None, ⊎_elim}
 use Rattle.std.proofs.lemmas.List.{append-nil, append_assoc, get_or-set_same, get_or-set_other, get_or_past, length-map, length-set}
 use Rattle.std.specs.Prelude.{◌==◌, ◌&&◌, ◌||◌, ◌⊎◌, not, slice_get}
 use Rattle.std.specs.List.{AllByRecursion, range_with_len}
@@ -201,6 +201,7 @@ seats_grown ranks group programs n old new seats all grown = grown_as (λ r. eac
     (λ r.
     each_past (λ q. cond (get_or group q 0 == r) (get_or programs q []) []) (length group) n all (λ q l. ap (λ z. cond (get_or group q 0 == r) z []) (get_or_past programs q [] (let e = seats.each in omega (arith, l, e))) ∙ neither (get_or group q 0 == r))
     ∙ seat_sum group programs r (lists.apart_from_pairs group seats.distinct)) grown
+
 -- one leg more
 pub leg_grown : (groups : List (List ℕ)) (programs : List (List (List Op))) (t : ℕ) (group : List ℕ) (here : List (List Op)) (old mid new : List (List Op)) → slice_get groups t ≡ Some group → here ≡ get_or programs t [] → HaveGrown (λ r. each (λ u. leg_part (get_or groups u []) (get_or programs u []) r) t) old mid → HaveGrown (leg_part group here) mid new → HaveGrown (λ r. each (λ u. leg_part (get_or groups u []) (get_or programs u []) r) (t + 1)) old new
 leg_grown groups programs t group here old mid new found is past grown =

@@ -1,25 +1,23 @@
 -- The bracket of a tile by reduce has the tile's contributors as its leaves, in their order.
-use Rattle.std.proofs.Common.{◌≡◌, ℕ, zero, suc, ◌+◌, ◌<◌, ◌≤◌, Bool, true, false, cond, List, [], ◌∷◌, ◌++◌, map, length, get_or, refl, sym, ap, ◌∙◌, subst, arith, inr}
+use Rattle.std.proofs.Common.{◌≡◌, ℕ, zero, suc, ◌+◌, ◌<◌, ◌≤◌, Bool, true, false, cond, List, [], ◌∷◌, ◌++◌, map, length, get_or, refl, ap, ◌∙◌, arith, inr}
 use Rattle.std.proofs.lemmas.Bool.Decides.{nat_tests}
 use Rattle.std.proofs.lemmas.List.FromFn.{length-map-range_with_len}
-use Rattle.std.specs.Prelude.{slice_get, nat_lt, sum, Some}
+use Rattle.std.specs.Prelude.{slice_get, nat_lt, Some}
 use Rattle.std.specs.List.{flat_map, range_with_len}
-use Rattle.icet_model.specs.declared.bracket.Bracket.{Bracket}
 use Rattle.icet_model.specs.declared.bracket.Bracket.TheVariants.{Empty}
 use Rattle.icet_model.specs.Bracket.{leaves}
 use Rattle.icet_groups.specs.Blocks.{block_of}
-use Rattle.icet_groups.specs.Places.{first_places, places_of}
 use Rattle.icet_groups.specs.Seats.{counts_of, groups_of}
-use Rattle.icet_groups.specs.Tiles.{AreTiles, TileView}
+use Rattle.icet_groups.specs.Tiles.{TileView}
 use Rattle.icet_groups.proofs.BlockLists.{blocks}
 use Rattle.icet_groups.proofs.Grouped.{each_can, lawful}
 use Rattle.icet_groups.proofs.Sharing.{are_shared}
 use Rattle.icet_multi.specs.declared.settings.Single.{Single}
 use Rattle.icet_multi.specs.Direct.{tile_bracket}
-use Rattle.icet_multi.specs.Rules.{JoinsInOrder, strategy_of, tile_of}
+use Rattle.icet_multi.specs.Rules.{strategy_of, tile_of}
 use Rattle.icet_multi.proofs.Absent.{tile_leaves}
 use Rattle.icet_multi.proofs.BracketLeaves.{all_leaves, made_from, single_over}
-use Rattle.icet_reduce.specs.Reduce.{ReduceJoinsInOrder, block_brackets, block_tile, reduce_bracket, reduce_brackets, reduce_rule}
+use Rattle.icet_reduce.specs.Reduce.{ReduceJoinsInOrder, block_brackets, block_tile, reduce_bracket}
 
 -- what stands at a place of a list
 at_place : (tiles : List TileView) (t : ℕ) (x : TileView) → slice_get tiles t ≡ Some x → (t < length tiles) × (tile_of tiles t ≡ x)

@@ -1,15 +1,11 @@
 -- The programs of reduce, put together from drafts, and the plan of them.
 use Rattle.std.proofs.Common.{◌≡◌, ℕ, zero, suc, ◌+◌, ◌-◌, ◌*◌, ◌^◌, ◌<◌, ◌≤◌, Bool, true, false, cond, List, [], ◌∷◌, ◌++◌, map, length, length-append, get_or, take, drop, refl, sym, ap, ◌∙◌, subst, arith, Option, Some, None}
-use Rattle.std.proofs.Math.ListN.{length-take, length-drop}
-use Rattle.std.proofs.lemmas.List.{length-map}
 use Rattle.std.proofs.lemmas.List.FromFn.{length-map-range_with_len}
-use Rattle.std.specs.Prelude.{◌==◌, nat_lt, min, Result, Ok, Err, IfOk}
+use Rattle.std.specs.Prelude.{◌==◌, nat_lt, Result, Ok, Err, IfOk}
 use Rattle.std.specs.List.{AllByRecursion, range_with_len}
 use Rattle.icet_model.specs.declared.bracket.Bracket.{Bracket}
 use Rattle.icet_model.specs.declared.exchange.Op.{Op}
-use Rattle.icet_model.specs.declared.exchange.Op.TheVariants.{Join}
-use Rattle.icet_model.specs.Plan.{IsPlan, PlanView, bracket_flow, plan_exchanges}
-use Rattle.icet_model.specs.Exchange.{of_rank}
+use Rattle.icet_model.specs.Plan.{IsPlan, PlanView}
 use Rattle.icet_plan.specs.Each.{each}
 use Rattle.icet_plan.specs.declared.plan.Leg.{Leg}
 use Rattle.icet_groups.specs.Blocks.{block_start}
@@ -21,11 +17,11 @@ use Rattle.icet_legs.proofs.EachMore.{each_length}
 use Rattle.icet_legs.proofs.ListTeams.{all_get_or, list_team}
 use Rattle.icet_legs.proofs.ListTeams as lists
 use Rattle.icet_multi.specs.declared.settings.Single.{Single}
-use Rattle.icet_multi.specs.Direct.{fetch, folds, hands_in, joins, sending}
+use Rattle.icet_multi.specs.Direct.{folds, hands_in, joins, sending}
 use Rattle.icet_multi.specs.Rules.{IsPlanBy, strategy_of, tile_of}
 use Rattle.icet_multi.specs.Sequential.{IsShown}
 use Rattle.icet_reduce.specs.Reduce.{block_tile, reduce_brackets, reduce_rule}
-use Rattle.icet_reduce.specs.Reduced.{AllHaveSeats, AreGroupLegs, AreGroupsFor, HaveGrown, HaveSeats, IsGroupFor, all_blanks, all_folds, all_legs, all_ops, all_sends, blank_ops, blanking, folding, handing, leg_part, programs_in, reduce_plan, reduce_program}
+use Rattle.icet_reduce.specs.Reduced.{AllHaveSeats, AreGroupLegs, AreGroupsFor, HaveGrown, HaveSeats, all_blanks, all_folds, all_legs, all_ops, all_sends, blank_ops, blanking, folding, handing, leg_part, programs_in, reduce_plan, reduce_program}
 use Rattle.icet_reduce.proofs.GroupLegs.{brackets_are, have_seats, leg_for, legs_are}
 use Rattle.icet_reduce.proofs.GroupMembers.{AreSeats}
 use Rattle.icet_reduce.proofs.GroupsRun.{IsLegAt}

@@ -1,20 +1,19 @@
 -- The programs of reduce make a plan with the rule's messages and order.
-use Rattle.std.proofs.Common.{◌≡◌, ◌≢◌, ℕ, zero, suc, ◌+◌, ◌*◌, ◌^◌, ◌<◌, ◌≤◌, Bool, true, false, cond, List, [], ◌∷◌, ◌++◌, map, length, length-append, get_or, refl, sym, ap, ◌∙◌, subst, arith, eq-eqb, ne_eqb, Option, Some, None, ⊎_elim}
+use Rattle.std.proofs.Common.{◌≡◌, ◌≢◌, ℕ, ◌+◌, ◌*◌, ◌^◌, ◌<◌, ◌≤◌, Bool, true, false, cond, List, [], ◌∷◌, ◌++◌, length, length-append, get_or, refl, sym, ap, ◌∙◌, subst, arith, eq-eqb, ne_eqb, Option, Some, None, ⊎_elim}
 use Rattle.std.proofs.lemmas.Bool.Decides.{nat_tests}
 use Rattle.std.proofs.lemmas.List.{append-nil, get_or_past, length-map}
 use Rattle.std.proofs.lemmas.List.FromFn.{get_or-map-range_with_len, length-map-range_with_len}
 use Rattle.std.specs.Prelude.{◌==◌, ◌&&◌, ◌⊎◌, nat_le, nat_lt, not}
-use Rattle.std.specs.List.{AllByRecursion, filter, range_with_len}
+use Rattle.std.specs.List.{AllByRecursion, filter}
 use mathlib.Core.Path.{fun_ext}
 use Rattle.icet_model.specs.declared.bracket.Bracket.{Bracket}
 use Rattle.icet_model.specs.declared.bracket.Bracket.TheVariants.{Empty}
-use Rattle.icet_model.specs.declared.exchange.Exchange.{Exchange}
 use Rattle.icet_model.specs.declared.exchange.Op.{Op}
 use Rattle.icet_model.specs.Exchange.{IsRising, exchanges, of_rank}
 use Rattle.icet_model.specs.Flow.{program}
 use Rattle.icet_model.specs.Matched.{HasPeerIn}
 use Rattle.icet_model.specs.Plan.{IsPlan, PlanView, bracket_carrier, bracket_flow, has_place, plan_exchanges}
-use Rattle.icet_model.specs.Run.{Carrier, MessageView, Piece}
+use Rattle.icet_model.specs.Run.{MessageView, Piece}
 use Rattle.icet_plan.specs.Each.{each}
 use Rattle.icet_plan.proofs.Assemble.{DoesAll, plan_flow, plan_matched, plan_sound}
 use Rattle.icet_plan.proofs.FlowIsOne.{AreMatched}
@@ -23,18 +22,18 @@ use Rattle.icet_plan.proofs.LocalRuns.{exchanges-append}
 use Rattle.icet_plan.proofs.PlanFlows.{of_program}
 use Rattle.icet_plan.proofs.Segments.{Does, IsPart, all_append, does_both, parts_join}
 use Rattle.icet_plan.proofs.SingleSteps.{does_as}
-use Rattle.icet_groups.specs.Tiles.{AreTiles, IsTile, TileView}
+use Rattle.icet_groups.specs.Tiles.{IsTile, TileView}
 use Rattle.icet_legs.specs.Team.{Team, by_pos, place_in}
 use Rattle.icet_legs.specs.TileStrategy.{TileStrategy, kept_of, messages_of, ops_of}
 use Rattle.icet_legs.proofs.ListTeams.{all_get_or}
 use Rattle.icet_legs.proofs.Loads.{LoadNothing}
 use Rattle.icet_legs.proofs.LegsInRow.{all_each}
-use Rattle.icet_multi.specs.Direct.{folds, hands_in, messages_for, sending, sends_for, takes_for}
-use Rattle.icet_multi.specs.Rules.{IsPlanBy, tile_of}
+use Rattle.icet_multi.specs.Direct.{folds, messages_for, sending, sends_for, takes_for}
+use Rattle.icet_multi.specs.Rules.{tile_of}
 use Rattle.icet_multi.proofs.DirectRuns.{Slots, nothing}
 use Rattle.icet_multi.proofs.Distinct.{has_none}
 use Rattle.icet_multi.proofs.OnTiles.{tiles_of}
-use Rattle.icet_reduce.specs.Reduce.{block_brackets, block_tile, by_block, display_in, group_team, reduce_bracket, reduce_brackets, reduce_exchanges, reduce_messages, reduce_rule}
+use Rattle.icet_reduce.specs.Reduce.{block_brackets, block_tile, by_block, display_in, group_team, reduce_bracket, reduce_exchanges, reduce_messages}
 use Rattle.icet_reduce.specs.Reduced.{block_ops, blank_ops, blanking, folding, group_ops, handing, reduce_plan, reduce_program}
 use Rattle.icet_reduce.proofs.BlanksRun.{blank_kept, blank_piece, blanks_run, blanks_silent}
 use Rattle.icet_reduce.proofs.BlocksMatched.{block_exchanges, blocks_part, blocks_peers, none_by_block}
@@ -169,8 +168,7 @@ module _ (s : TileStrategy) (loads : (g : Team) (shows r : ℕ) → LoadNothing 
       let first = blocks_run ranks tiles groups are r sl in
       let second = legs_run s loads ranks tiles groups are legs r first.after first.holds in
       let third = blanks_run tiles r second.after in
-      let behind = does_both c r (tiles_of tiles) (legs_of r) (blanks_of r) (λ q. leg_msgs q r) nothing first.after second.after third.0 (λ q. leg_msgs r q) nothing (legs_kept r) (blanks_kept r) second.does third.1 in
-      (
+      let behind = does_both c r (tiles_of tiles) (legs_of r) (blanks_of r) (λ q. leg_msgs q r) nothing first.after second.after third.0 (λ q. leg_msgs r q) nothing (legs_kept r) (blanks_kept r) second.does third.1 in (
         third.0,
         does_as c r (tiles_of tiles) (reduce_program s tiles groups r) (λ q. block_msgs q r ++ (leg_msgs q r ++ [])) (taken r) sl third.0 (λ q. block_msgs r q ++ (leg_msgs r q ++ [])) (sent r) (kept r)
             (fun_ext (λ q. ap (λ z. block_msgs q r ++ z) (append-nil (leg_msgs q r))))

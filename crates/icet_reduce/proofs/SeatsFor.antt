@@ -1,5 +1,5 @@
 -- The groups of lawful tiles are groups for them.
-use Rattle.std.proofs.Common.{◌≡◌, ◌≢◌, ℕ, zero, suc, ◌<◌, ◌≤◌, Bool, true, false, List, [], ◌∷◌, map, length, get_or, refl, sym, ap, ◌∙◌, subst, arith, eqb-true}
+use Rattle.std.proofs.Common.{◌≡◌, ◌≢◌, ℕ, suc, ◌<◌, ◌≤◌, Bool, true, false, List, [], ◌∷◌, length, get_or, refl, arith, eqb-true}
 use Rattle.std.specs.Prelude.{◌==◌, ◌||◌, AllPairs}
 use Rattle.std.specs.List.{AllByRecursion}
 use Rattle.icet_model.proofs.Lists.{all_in_turn}
@@ -14,7 +14,6 @@ use Rattle.icet_legs.specs.Task.{StandsIn}
 use Rattle.icet_legs.proofs.ListTeams.{all_get_or}
 use Rattle.icet_multi.specs.Rules.{tile_of}
 use Rattle.icet_multi.specs.Sequential.{IsShown}
-use Rattle.icet_reduce.specs.Reduced.{AreGroupsFor, IsGroupFor}
 use Rattle.icet_reduce.proofs.GroupMembers.{AreSeats, has_at}
 use Rattle.icet_reduce.proofs.ReduceLeaves.{count_at}
 

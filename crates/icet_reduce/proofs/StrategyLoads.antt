@@ -1,5 +1,5 @@
 -- No strategy for a tile loads an image: its participants begin with what they have.
-use Rattle.std.proofs.Common.{ℕ, ◌+◌, ◌-◌, ◌^◌, Bool, true, false, cond, List, [], ◌∷◌, ◌++◌, length, Option, Some, None}
+use Rattle.std.proofs.Common.{ℕ, ◌+◌, ◌-◌, ◌^◌, Bool, true, false, cond, [], ◌∷◌, ◌++◌, length, Option, Some, None}
 use Rattle.icet_model.specs.declared.exchange.Kind.TheVariants.{Send, Take}
 use Rattle.icet_model.specs.declared.exchange.Op.TheVariants.{Join, Swap}
 use Rattle.icet_plan.specs.Each.{each}

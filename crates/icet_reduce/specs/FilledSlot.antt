@@ -1,5 +1,5 @@
 -- A leg that begins with a piece that is already there, in place of the participant's own image.
-use Rattle.std.specs.Prelude.{◌≡◌, ℕ, ◌<◌, List, [], length, get_or, Option, Some}
+use Rattle.std.specs.Prelude.{◌≡◌, ℕ, List, [], length, get_or, Option, Some}
 use Rattle.icet_model.specs.declared.bracket.Bracket.{Bracket}
 use Rattle.icet_model.specs.declared.exchange.Op.{Op}
 use Rattle.icet_model.specs.Fit.{AllFit, Tiles}
@@ -7,7 +7,7 @@ use Rattle.icet_model.specs.Flow.{Messages}
 use Rattle.icet_model.specs.Plan.{bracket_carrier}
 use Rattle.icet_model.specs.Run.{Local, Piece, run}
 use Rattle.icet_legs.specs.Leg.{IsLeg}
-use Rattle.icet_legs.specs.Team.{IsTeam, Team}
+use Rattle.icet_legs.specs.Team.{Team}
 use Rattle.icet_legs.proofs.Loads.{LoadNothing}
 
 -- the whole image of the team's tile, made of the leaf of the participant at position p

@@ -1,7 +1,7 @@
 -- The strategy reduce: each tile is joined by a group of its own, and all groups work at once. In round 0 each contributor
 -- hands its whole image to the member of its block, which folds the block's images from the left; from round 1 on the
 -- members join these folds by a strategy for one tile.
-use Rattle.std.specs.Prelude.{◌≡◌, ℕ, ◌+◌, ◌<◌, cond, nat_lt, List, [], ◌∷◌, ◌++◌, map, length, get_or}
+use Rattle.std.specs.Prelude.{ℕ, cond, nat_lt, List, [], ◌++◌, map, length, get_or}
 use Rattle.std.specs.List.{range_with_len}
 use Rattle.icet_model.specs.declared.bracket.Bracket.{Bracket}
 use Rattle.icet_model.specs.declared.bracket.Bracket.TheVariants.{Empty}

@@ -79,12 +79,7 @@ fn push_block_sends(drafts: &mut Vec<Draft>, t: u32, block: &TileRanks) -> Resul
 
 // one contributor hands in its image, if it isn't the block's member
 #[tactic(auto, using(crate::proofs::Growing::self_grown, crate::proofs::Growing::other_grown))]
-fn push_send(
-    drafts: &mut Vec<Draft>,
-    t: u32,
-    block: &TileRanks,
-    rank: Rank,
-) -> Result<(), NoMemory>
+fn push_send(drafts: &mut Vec<Draft>, t: u32, block: &TileRanks, rank: Rank) -> Result<(), NoMemory>
     requires rank { rank < length drafts.old.items }
     ensures { IfOk result (λ _. HaveGrown (given_by block.now.display (handing t block.now) rank) drafts.old.items drafts.new.items) }
 {

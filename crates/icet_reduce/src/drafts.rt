@@ -89,11 +89,7 @@ pub(crate) fn fold(drafts: &mut Vec<Draft>, t: u32, block: &TileRanks) -> Result
 }
 
 // rank `rank` does what a program says
-pub(crate) fn append(
-    drafts: &mut Vec<Draft>,
-    rank: Rank,
-    program: &Program,
-) -> Result<(), NoMemory>
+pub(crate) fn append(drafts: &mut Vec<Draft>, rank: Rank, program: &Program) -> Result<(), NoMemory>
     requires { rank < length drafts.old.items }
     ensures { IfOk result (λ _. drafts.new.items ≡ put_behind rank program.now drafts.old.items) }
 {

@@ -35,7 +35,15 @@ pub(crate) fn legs_of(
 {
     let mut legs = Vec::new(alloc);
     for t in 0..tiles.len() {
-        legs.push(leg_of(alloc, ranks, t as u32, &tiles[t], groups.list(t as u32), single, k)?)?;
+        legs.push(leg_of(
+            alloc,
+            ranks,
+            t as u32,
+            &tiles[t],
+            groups.list(t as u32),
+            single,
+            k,
+        )?)?;
     }
     Ok(legs)
 }
@@ -79,7 +87,17 @@ fn joining(
     ensures { IfOk result (IsGroupLeg (strategy_of single k) t tile.now group.now) }
 {
     let folds = folds_of(alloc, tile, group)?;
-    exchange_plan(alloc, group, &folds, t, tile.size(), tile.display(), 1, single, k)
+    exchange_plan(
+        alloc,
+        group,
+        &folds,
+        t,
+        tile.size(),
+        tile.display(),
+        1,
+        single,
+        k,
+    )
 }
 
 // nobody does anything
@@ -126,11 +144,7 @@ pub(crate) fn push_legs(
 }
 
 // the members of a group do its leg
-fn push_leg(
-    drafts: &mut Vec<Draft>,
-    group: &[Rank],
-    programs: &[Program],
-) -> Result<(), NoMemory>
+fn push_leg(drafts: &mut Vec<Draft>, group: &[Rank], programs: &[Program]) -> Result<(), NoMemory>
     requires seats { HaveSeats (length drafts.old.items) group.now programs.now }
     ensures { IfOk result (λ _. HaveGrown (leg_part group.now programs.now) drafts.old.items drafts.new.items) }
 {

@@ -1,4 +1,4 @@
-use Rattle.std.proofs.Common.{◌≡◌, ◌≢◌, ◌<◌, ◌≤◌, ◌∙◌, List, ℕ, ap, sym, subst, length, get_or, take}
+use Rattle.std.proofs.Common.{◌≢◌, ◌<◌, ◌≤◌, ◌∙◌, List, ℕ, ap, subst, length, get_or, take}
 use Rattle.std.proofs.lemmas.List.{take_all}
 use Rattle.icet_multi.specs.Direct.{sending}
 use Rattle.icet_multi.proofs.Distinct.{apart_from_pairs}
@@ -10,10 +10,12 @@ pub push_send-requires : goal.push_send-requires
 push_send-requires c =
     let ranks = c.loop-i.invariant.ranks in
     let q = c.index-contributors-i.result in
-    record { rank = ranks_low _ c.args.block.now.contributors c.loop-i.i q _ c.requires.block.contributors
-    (subst (λ (l : List ℕ). c.loop-i.i < length l) ranks c.loop-i-test.true)
-    (c.index-contributors-i.is ∙ ap (λ (l : List ℕ). get_or l c.loop-i.i q) ranks)
-    c.loop-i.invariant.grown.same }
+    record {
+      rank = ranks_low _ c.args.block.now.contributors c.loop-i.i q _ c.requires.block.contributors
+          (subst (λ (l : List ℕ). c.loop-i.i < length l) ranks c.loop-i-test.true)
+          (c.index-contributors-i.is ∙ ap (λ (l : List ℕ). get_or l c.loop-i.i q) ranks)
+          c.loop-i.invariant.grown.same;
+    }
 
 pub loop-i-preserved : goal.loop-i-preserved
 loop-i-preserved c =

@@ -1,4 +1,3 @@
-use Rattle.std.proofs.Common.{arith}
 use Rattle.icet_reduce.specs.Reduced.{blanking}
 use Rattle.icet_reduce.proofs.Growing.{shown_low, tile_grown}
 use Rattle.icet_reduce.proofs.legs.push_blanks.Goals as goal

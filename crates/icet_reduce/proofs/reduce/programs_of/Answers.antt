@@ -1,7 +1,7 @@
-use Rattle.std.proofs.Common.{◌∙◌, arith, sym, subst, length}
+use Rattle.std.proofs.Common.{◌∙◌, arith, sym, subst}
 use Rattle.icet_reduce.specs.Reduced.{AllHaveSeats, AreGroupsFor, all_ops, programs_in}
 use Rattle.icet_reduce.proofs.Growing.{programs_long}
-use Rattle.icet_reduce.proofs.ReducePrograms.{AreDone, all_done, all_short, ok_same, programs_are, tiles_known}
+use Rattle.icet_reduce.proofs.ReducePrograms.{all_done, all_short, ok_same, programs_are, tiles_known}
 use Rattle.icet_reduce.proofs.reduce.programs_of.Goals as goal
 
 pub push_sends-requires-clause-low : goal.push_sends-requires-clause-low
@@ -26,8 +26,10 @@ pub push_blanks-requires-clause-shown : goal.push_blanks-requires-clause-shown
 push_blanks-requires-clause-shown c = tiles_known c.args.ranks _ c.args.tiles.now c.args.groups.now c.requires.groups (c.in_ok-push_legs.ensures.same ∙ (c.in_ok-push_folds.ensures.same ∙ (c.in_ok-push_sends.ensures.same ∙ c.in_ok-drafts.ensures.many)))
 
 pub finish-requires : goal.finish-requires
-finish-requires c = record { short = all_short c.args.ranks c.args.tiles.now c.args.groups.now (programs_in c.args.legs.now) c.requires.low c.requires.few c.requires.groups (programs_long c.args.legs.now ∙ c.requires.count) c.requires.seats _
-    (all_done c.args.ranks c.args.tiles.now c.args.groups.now (programs_in c.args.legs.now) _ _ _ _ _ c.in_ok-drafts.ensures.many c.in_ok-drafts.ensures.none c.in_ok-push_sends.ensures c.in_ok-push_folds.ensures c.in_ok-push_legs.ensures c.in_ok-push_blanks.ensures) }
+finish-requires c = record {
+  short = all_short c.args.ranks c.args.tiles.now c.args.groups.now (programs_in c.args.legs.now) c.requires.low c.requires.few c.requires.groups (programs_long c.args.legs.now ∙ c.requires.count) c.requires.seats _
+      (all_done c.args.ranks c.args.tiles.now c.args.groups.now (programs_in c.args.legs.now) _ _ _ _ _ c.in_ok-drafts.ensures.many c.in_ok-drafts.ensures.none c.in_ok-push_sends.ensures c.in_ok-push_folds.ensures c.in_ok-push_legs.ensures c.in_ok-push_blanks.ensures);
+}
 
 pub returns : goal.returns
 returns c = ok_same (λ all. all.items) _ _

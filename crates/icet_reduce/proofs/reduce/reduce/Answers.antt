@@ -1,4 +1,4 @@
-use Rattle.std.proofs.Common.{◌∙◌, arith, length, refl}
+use Rattle.std.proofs.Common.{arith}
 use Rattle.icet_reduce.proofs.ReducePrograms.{have_groups, is_plan, legs_have_seats, plan_by_rule, plan_ranks}
 use Rattle.icet_reduce.proofs.reduce.reduce.Goals as goal
 
