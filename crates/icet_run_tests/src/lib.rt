@@ -6,3 +6,5 @@
 mod runs;
 #[cfg(test)]
 mod scenes;
+#[cfg(test)]
+mod strategies;

@@ -10,7 +10,7 @@ const SHARED_EDGE: &str =
 const READY_DRAWN: &str =
     "icet-scene 2\nmode depth\nranks 2\ntile 0 0 2 2 0\nspan 0 0 0 5 10 20 30 255\nspan 1 1 0 5 40 50 60 255\nspan 1 0 1 5 40 50 60 255 5 40 50 60 255\nend\n";
 
-const EDGE_PICTURE: &[u8] =
+pub(crate) const EDGE_PICTURE: &[u8] =
     b"P7\nWIDTH 2\nHEIGHT 2\nDEPTH 4\nMAXVAL 255\nTUPLTYPE RGB_ALPHA\nENDHDR\n\x0a\x14\x1e\xff\x28\x32\x3c\xff\x28\x32\x3c\xff\x28\x32\x3c\xff";
 
 /// Three reds, the last opaque, behind a rank that draws nothing.
