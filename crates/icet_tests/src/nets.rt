@@ -1,14 +1,16 @@
-//! A net of several rounds over wires in memory: closed early, driven to its end, and its turns counted.
+//! A net of several rounds over each kind of wires: closed early, driven to its end, and its turns counted.
 ghost use Rattle.std.specs.Prelude.{◌≡◌, ◌<◌, ◌≤◌, [], ◌∷◌, IfOk, IfSome, length};
 ghost use Rattle.icet_net.specs.Ranks.{AreHulls, AreWholeImages};
 
 use crate::gates::CountingGate;
 use crate::meeting::MeetingGate;
 use crate::samples::two_swappers;
-use icet_base::{Gate, Mode, NoMemory, Rank, Rect};
-use icet_net::{Hull, Image, RankMachine, Unfinished, close_net, drive, open_net, turn};
+use icet_base::{Gate, Mode, NoMemory, PlainGate, Rank, Rect};
+use icet_net::laws::hulls_stay;
+use icet_net::{Hull, Image, Pictures, RankMachine, Unfinished, close_net, drive, open_net, turn};
 use icet_pixel::{Fragment, Pixel};
 use icet_ring::{Inbox, MemWires, Outbox, Wires};
+use icet_ring_wires::{RingWires, ScriptWires};
 use icet_sparse::Sparse;
 use icet_tiles::{Layout, Tile};
 use std::alloc::Global;
@@ -79,43 +81,115 @@ fn closed_early<W: Wires>(
     close_net(hull, ranks, wires).err()
 }
 
-/// Whether two swappers that are closed early and then driven show these pixels, in so many turns.
-fn shows<R: Threads + Sync>(
+/// Turns the ranks of a net once, by one step each.
+fn begin<W: Wires, R: Threads + Sync>(
+    rt: &R,
+    hull: &Hull<W>,
+    ranks: &mut Vec<RankMachine<W::In, W::Out>>,
+) -> Result<(), NoMemory>
+    requires hulls { AreHulls hull.now ranks.old.items }
+    ensures hulls { AreHulls hull.now ranks.new.items }
+{
+    hulls_stay();
+    turn(rt, ranks, 2, 1, &PlainGate)
+}
+
+/// What came of a net that was closed early: the rank that wasn't done, whether each rank still had one exchange
+/// behind it, and then the pictures, and how often the ranks entered in the drive to its end.
+#[derive(Drop)]
+struct Came {
+    undone: Rank,
+    kept: bool,
+    pictures: Pictures,
+    entries: [u32; 2],
+}
+
+/// What comes of two swappers that are closed after one turn, and then driven and closed. None where the second
+/// close answers that a rank isn't done, or the first one doesn't.
+fn came_over<W: Wires, R: Threads + Sync>(
     rt: &R,
     alloc: Global,
     drawn: &[[Pixel; 2]; 2],
-    want: &[Pixel; 2],
-    turns: u32,
-) -> Result<bool, NoMemory> {
-    let mut wires = MemWires::new(alloc);
-    let (hull, ranks) = open(alloc, drawn, &mut wires)?;
+    wires: &mut W,
+) -> Result<Option<Came>, NoMemory> {
+    let (hull, mut ranks) = open(alloc, drawn, wires)?;
+    begin(rt, &hull, &mut ranks)?;
     let Some(
         Unfinished {
             rank,
             hull,
             mut ranks,
         },
-    ) = closed_early(hull, ranks, &mut wires)
+    ) = closed_early(hull, ranks, wires)
     else {
-        return Ok(false);
+        return Ok(None);
     };
+    let kept = ranks.len() == 2 && ranks.iter().all(|machine| machine.counter() == 1);
     let gate = CountingGate::new();
-    finish(rt, &hull, &mut ranks, &mut wires, &gate)?;
-    let Ok(pictures) = close_net(hull, ranks, &mut wires) else {
-        return Ok(false);
-    };
-    let entries = gate.entries();
-    let is_shown =
-        matches!(pictures.as_slice(), [picture] if picture.as_slice() == want.as_slice());
-    Ok(rank == Rank(0) && is_shown && entries[0] <= turns && entries[1] == entries[0])
+    finish(rt, &hull, &mut ranks, wires, &gate)?;
+    Ok(match close_net(hull, ranks, wires) {
+        Ok(pictures) => Some(Came {
+            undone: rank,
+            kept,
+            pictures,
+            entries: gate.entries(),
+        }),
+        Err(_) => None,
+    })
 }
 
-// Six exchanges, so at most seven turns.
+/// Wires of each kind, the last with the numbers of the blind calls.
+#[derive(Drop)]
+enum Kind {
+    Memory,
+    Rings,
+    Script(&'static [u64]),
+}
+
+/// The same over new wires of this kind.
+fn came_of<R: Threads + Sync>(
+    rt: &R,
+    alloc: Global,
+    drawn: &[[Pixel; 2]; 2],
+    kind: &Kind,
+) -> Result<Option<Came>, NoMemory> {
+    match kind {
+        Kind::Memory => came_over(rt, alloc, drawn, &mut MemWires::new(alloc)),
+        Kind::Rings => came_over(rt, alloc, drawn, &mut RingWires::new(alloc)),
+        Kind::Script(blind) => {
+            let blind = Vec::from_slice(alloc, blind)?;
+            came_over(rt, alloc, drawn, &mut ScriptWires::new(alloc, blind))
+        }
+    }
+}
+
+// The first turn makes two of six exchanges, both sends, so the drive takes at most five turns more.
 #[test]
-fn halves_are_swapped(rt: HostRuntime) {
+fn a_net_closed_early_is_handed_back_and_shows_its_halves(rt: HostRuntime) {
     let drawn = [[grey(10, 5), grey(10, 5)], [grey(20, 5), grey(30, 2)]];
-    let holds = shows(&rt, rt.alloc(), &drawn, &[grey(10, 5), grey(30, 2)], 7);
-    assert!(rt; matches!(holds, Ok(true)));
+    let want = [grey(10, 5), grey(30, 2)];
+    for (name, kind) in [
+        ("memory", Kind::Memory),
+        ("rings", Kind::Rings),
+        ("all see", Kind::Script(&[])),
+        ("first blind", Kind::Script(&[0])),
+        ("three blind", Kind::Script(&[0, 1, 3])),
+    ] {
+        match came_of(&rt, rt.alloc(), &drawn, &kind) {
+            Ok(Some(came)) => {
+                let [turns, others] = came.entries;
+                assert!(rt; came.kept && turns <= 5 && others == turns, "{name}");
+                assert_eq!(rt; came.undone, Rank(0), "{name}");
+                let shown = came
+                    .pictures
+                    .as_slice()
+                    .first()
+                    .map(|picture| picture.as_slice());
+                assert_eq!(rt; shown, Some(want.as_slice()), "{name}");
+            }
+            _ => assert!(rt; false, "{name}"),
+        }
+    }
 }
 
 fn crosses<T: Send>(_value: &T) {}
