@@ -15,13 +15,14 @@ use Rattle.icet_model.specs.Tiles.{TileView as AreaTile}
 use Rattle.icet_scene_model.specs.Scene.{SceneView}
 use Rattle.icet_tiles.specs.Contributors.{HasEachOnce}
 use Rattle.icet_multi.specs.declared.settings.Settings.{Settings}
-use Rattle.icet_multi.specs.Direct.{TileView}
+use Rattle.icet_multi.specs.Direct.{AreTiles, TileView}
+use Rattle.icet_multi.proofs.Layouts.{are_tiles}
 use Rattle.icet_multi.specs.Strategies.{KeepsOrder, tile_ranks}
 use Rattle.icet_net.specs.Opening.{CanOpen}
 use Rattle.icet_net.specs.Ranks.{AreWholeImages}
 use Rattle.icet_scene.specs.Scenes.{IsLawfulScene}
 use Rattle.icet_scene_model.specs.Jobs.{boxes_of}
-use Rattle.icet_jobs.specs.Composites.{IsPlanFor, rank_image, rank_images}
+use Rattle.icet_jobs.specs.Composites.{IsPlanFor, rank_image, rank_images, scene_tiles, who_of}
 use Rattle.icet_jobs.proofs.SceneImages.{whole_images}
 use Rattle.icet_jobs.proofs.ScenePictures.{IsOrdered}
 use Rattle.icet_model.proofs.Lists.{no_pairs}
@@ -61,6 +62,10 @@ can_open settings scene plan lawful many is =
       count = length-map (range_with_len 0 scene.ranks) (rank_image scene) ∙ length-range_with_len 0 scene.ranks ∙ sym (is.programs ∙ many);
       whole = subst (λ ns. AllByRecursion (AreWholeImages ns) (rank_images scene)) sizes (whole_images scene);
     }
+
+-- a scene's tiles are what strategies want
+pub strategy_tiles : (scene : SceneView) → IsLawfulScene scene → AreTiles (length scene.order) (scene_tiles scene)
+strategy_tiles scene lawful = subst (λ n. AreTiles n (scene_tiles scene)) (sym lawful.each.count) (are_tiles scene.ranks scene.order scene.tiles (who_of scene) lawful.each lawful.displays (keep_order (boxes_of scene) scene.order scene.tiles) lawful.layout)
 
 -- a scene's order
 pub ordered : (scene : SceneView) → IsLawfulScene scene → IsOrdered scene

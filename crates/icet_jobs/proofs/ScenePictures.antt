@@ -22,10 +22,10 @@ use Rattle.icet_model.proofs.Lists.{all_in_turn}
 use Rattle.icet_model.proofs.NearestLeaf.{value_nearest}
 use Rattle.icet_raster.proofs.Outside.{blank_outside}
 use Rattle.icet_multi.specs.declared.settings.Settings.{Settings}
-use Rattle.icet_multi.specs.Direct.{TileView}
+use Rattle.icet_multi.specs.Direct.{AreTiles, TileView}
 use Rattle.icet_multi.specs.Rules.{JoinsInOrder, rule_of}
 use Rattle.icet_multi.specs.Strategies.{tile_ranks}
-use Rattle.icet_multi.proofs.BracketLeaves.{rules_join_in_order}
+use Rattle.icet_multi.proofs.RulesJoin.{rules_join_in_order}
 use Rattle.icet_tiles.specs.Contributors.{HasEachOnce}
 use Rattle.icet_net.specs.Net.{HullView}
 use Rattle.icet_net.specs.Opening.{sides_of}
@@ -178,10 +178,10 @@ abbrev picture_by : SceneView → AreaTile × Bracket → DenseView
 picture_by scene x = record { w = x.0.area.w; h = x.0.area.h; pixels = plain_picture scene x.0 x.1 }
 
 -- what the close of the plan's net shows
-pub shown : (settings : Settings) (scene : SceneView) (plan : PlanView) (cap strands : ℕ) (pairs : List (ℕ × ℕ)) → IsOrdered scene → IsPlanFor settings scene plan
+pub shown : (settings : Settings) (scene : SceneView) (plan : PlanView) (cap strands : ℕ) (pairs : List (ℕ × ℕ)) → IsOrdered scene → AreTiles (length scene.order) (scene_tiles scene) → IsPlanFor settings scene plan
     → pictures_of (record { plan = plan; cap = cap; strands = strands; sides = map sides_of scene.tiles; pairs = pairs }) scene.mode (images_of scene) ≡ plain_pictures settings scene
-shown settings scene plan cap strands pairs ordered is =
-    let joins = rules_join_in_order settings scene.order (scene_tiles scene) in
+shown settings scene plan cap strands pairs ordered lawful is =
+    let joins = rules_join_in_order settings scene.order (scene_tiles scene) lawful in
     let brackets = brackets_of settings scene in
     let f : ℕ → DenseView = picture_of (hull_of scene plan cap strands pairs) scene.mode (images_of scene) in
     let many : length brackets ≡ length scene.tiles = joins.count ∙ tile_count (λ x. contributors (boxes_of scene) scene.order x.area) scene.tiles in
@@ -190,7 +190,7 @@ shown settings scene plan cap strands pairs ordered is =
   where
     each : (t : ℕ) (tile : AreaTile) (bracket : Bracket) → slice_get scene.tiles t ≡ Some tile → slice_get (brackets_of settings scene) t ≡ Some bracket → picture_of (hull_of scene plan cap strands pairs) scene.mode (images_of scene) t ≡ picture_by scene (tile, bracket)
     each t tile bracket at bracket_at =
-        let joins = rules_join_in_order settings scene.order (scene_tiles scene) in
+        let joins = rules_join_in_order settings scene.order (scene_tiles scene) lawful in
         let ranks = contributors (boxes_of scene) scene.order tile.area in
         let here = tile_at (λ x. contributors (boxes_of scene) scene.order x.area) scene.tiles t tile at in
         let side = map_at sides_of scene.tiles t tile (0, 0) at in

@@ -142,16 +142,3 @@ pub made_from : {X Y : Type 0} (f : X → Y) (xs : List X) (t : ℕ) (x : X) (y 
 made_from f [] t x y e h = absurd (cc)
 made_from f (z ∷ xs) zero x y e h = (let a : f z ≡ y = cc in sym a) ∙ ap f (let b : z ≡ x = cc in b)
 made_from f (z ∷ xs) (suc t) x y e h = made_from f xs t x y e h
-
-pub rules_join_in_order : RulesJoinInOrder
-rules_join_in_order settings order tiles = go settings.strategy
-  where
-    go : (strategy : Strategy) → JoinsInOrder (rule_by strategy (strategy_of settings.single settings.k)) order tiles
-    go Sequential = record {
-      count = length-map tiles _;
-      joined = λ t x b at is. inl (ap leaves (made_from _ tiles t x b at is) ∙ single_joins settings.single settings.k order);
-    }
-    go Direct = record {
-      count = length-map tiles tile_bracket;
-      joined = λ t x b at is. inr (ap leaves (made_from tile_bracket tiles t x b at is) ∙ tile_leaves x);
-    }

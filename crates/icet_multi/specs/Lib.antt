@@ -1,5 +1,10 @@
 pub mod Absent
 pub mod Direct
+pub mod FilledSlot
+pub mod Reduce
+pub mod ReduceSamples
+pub mod Reduced
+pub mod Rule
 pub mod Rules
 pub mod Samples
 pub mod Sequential

@@ -1,38 +1,18 @@
--- A strategy as a value: what it says of the plan for a list of tiles and the ranks in their order.
-use Rattle.std.specs.Prelude.{◌≡◌, ℕ, ◌*◌, ◌<◌, ◌⊎◌, List, [], map, length, get_or, slice_get, Some}
-use Rattle.icet_model.specs.declared.bracket.Bracket.{Bracket}
+-- The rules of the strategies.
+use Rattle.std.specs.Prelude.{ℕ, ◌*◌, List, map, length}
 use Rattle.icet_model.specs.declared.bracket.Bracket.TheVariants.{Leaf}
-use Rattle.icet_model.specs.declared.exchange.Exchange.{Exchange}
-use Rattle.icet_model.specs.Bracket.{leaves}
-use Rattle.icet_model.specs.Exchange.{exchanges, of_rank}
-use Rattle.icet_model.specs.Flow.{Messages}
-use Rattle.icet_model.specs.Plan.{PlanView, bracket_flow, plan_exchanges}
+use Rattle.icet_model.specs.Exchange.{exchanges}
+use Rattle.icet_model.specs.Plan.{PlanView}
 use Rattle.icet_plan.specs.Each.{each}
+use Rattle.icet_groups.specs.Tiles.{AreTiles}
 use Rattle.icet_legs.specs.Team.{Team, by_pos, place_in, team_of}
 use Rattle.icet_legs.specs.TileStrategy.{TileStrategy, messages_of, ops_of}
-use Rattle.icet_tree.specs.Tree.{tree_strategy}
-use Rattle.icet_bswap.specs.Bswap.{bswap_strategy}
-use Rattle.icet_radixk.specs.Radixk.{radix_strategy}
 use Rattle.icet_multi.specs.declared.settings.Settings.{Settings}
 use Rattle.icet_multi.specs.declared.settings.Strategy.{Strategy}
-use Rattle.icet_multi.specs.declared.settings.Strategy.TheVariants.{Sequential, Direct}
-use Rattle.icet_multi.specs.declared.settings.Single.{Single}
-use Rattle.icet_multi.specs.declared.settings.Single.TheVariants.{Tree, Bswap, Radixk}
+use Rattle.icet_multi.specs.declared.settings.Strategy.TheVariants.{Sequential, Direct, Reduce}
 use Rattle.icet_multi.specs.Direct.{IsDirect, TileView, direct_exchanges, direct_messages, tile_bracket}
-
-pub record Rule : Type 0 where
-  pub brackets : List ℕ → List TileView → List Bracket  -- of each tile
-  pub messages : List ℕ → List TileView → Messages Bracket  -- what each rank sends to each
-  pub exchanges : List ℕ → List TileView → ℕ → List Exchange  -- of each rank, in its order
-
--- the plan that a rule says
-pub record IsPlanBy (rule : Rule) (order : List ℕ) (tiles : List TileView) (plan : PlanView) : Type 0 where
-  pub sizes : plan.tiles.sizes ≡ map (λ x. x.size) tiles
-  pub displays : plan.tiles.displays ≡ map (λ x. x.display) tiles
-  pub brackets : plan.brackets ≡ rule.brackets order tiles
-  pub programs : length plan.programs ≡ length order
-  pub messages : (q r : ℕ) → bracket_flow plan q r ≡ rule.messages order tiles q r
-  pub exchanges : (r : ℕ) → r < length order → of_rank (plan_exchanges plan) r ≡ rule.exchanges order tiles r
+use Rattle.icet_multi.specs.Reduce.{reduce_rule}
+pub use Rattle.icet_multi.specs.Rule.{IsPlanBy, JoinsInOrder, Rule, strategy_of, tile_of}
 
 -- every contributor sends its whole image to the tile's display
 abbrev pub direct_rule : Rule
@@ -41,10 +21,6 @@ direct_rule = record {
   messages = λ order tiles. direct_messages tiles;
   exchanges = λ order tiles. direct_exchanges tiles;
 }
-
--- a tile beyond the last has no pixels
-abbrev pub tile_of : List TileView → ℕ → TileView
-tile_of tiles t = get_or tiles t (record { size = 0; display = 0; contributors = [] })
 
 -- all ranks take part in tile t, and their leaves are themselves; the tiles before take so many rounds each
 abbrev pub team_at : TileStrategy → List ℕ → List TileView → ℕ → Team
@@ -62,29 +38,19 @@ sequential_rule s = record {
   exchanges = λ order tiles r. each (λ t. exchanges (ops_of s (team_at s order tiles t) (shows_at order tiles t) r)) (length tiles);
 }
 
--- the strategy for one tile, with factors up to k where it splits into groups
-abbrev pub strategy_of : Single → ℕ → TileStrategy
-strategy_of Tree k = tree_strategy
-strategy_of Bswap k = bswap_strategy
-strategy_of Radixk k = radix_strategy k
-
 -- the rule of a strategy, which may rest on one for a single tile
 abbrev pub rule_by : Strategy → TileStrategy → Rule
 rule_by Sequential s = sequential_rule s
 rule_by Direct s = direct_rule
+rule_by Reduce s = reduce_rule s
 
 -- the rule that settings name
 abbrev pub rule_of : Settings → Rule
 rule_of settings = rule_by settings.strategy (strategy_of settings.single settings.k)
 
--- the bracket of each tile joins all ranks in their order, or the tile's contributors in theirs
-pub record JoinsInOrder (rule : Rule) (order : List ℕ) (tiles : List TileView) : Type 0 where
-  pub count : length (rule.brackets order tiles) ≡ length tiles
-  pub joined : (t : ℕ) (x : TileView) (b : Bracket) → slice_get tiles t ≡ Some x → slice_get (rule.brackets order tiles) t ≡ Some b → (leaves b ≡ order) ⊎ (leaves b ≡ x.contributors)
-
--- each strategy joins in the order
+-- each strategy joins in the order, where each tile has a display of its own and no contributor stands twice
 abbrev pub RulesJoinInOrder : Type 0
-RulesJoinInOrder = (settings : Settings) (order : List ℕ) (tiles : List TileView) → JoinsInOrder (rule_of settings) order tiles
+RulesJoinInOrder = (settings : Settings) (order : List ℕ) (tiles : List TileView) → AreTiles (length order) tiles → JoinsInOrder (rule_of settings) order tiles
 
 -- the direct strategy's plan is that of its rule
 abbrev pub DirectIsByRule : Type 0

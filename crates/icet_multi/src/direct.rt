@@ -31,12 +31,8 @@ pub fn direct(alloc: Global, ranks: u32, tiles: &[TileRanks]) -> Result<Plan, No
     Plan::make(alloc, sizes, displays, brackets, programs)
 }
 
-/// The number of pixels of each tile.
-///
-/// # Errors
-///
-/// `NoMemory`.
-pub fn sizes_of(alloc: Global, tiles: &[TileRanks]) -> Result<Vec<u32>, NoMemory>
+// the number of pixels of each tile
+pub(crate) fn sizes_of(alloc: Global, tiles: &[TileRanks]) -> Result<Vec<u32>, NoMemory>
     ensures { IfOk result (λ all. all.items ≡ map (λ x. x.size) tiles.now) }
 {
     let mut all = Vec::new(alloc);
@@ -46,12 +42,8 @@ pub fn sizes_of(alloc: Global, tiles: &[TileRanks]) -> Result<Vec<u32>, NoMemory
     Ok(all)
 }
 
-/// The rank that shows each tile.
-///
-/// # Errors
-///
-/// `NoMemory`.
-pub fn displays_of(alloc: Global, tiles: &[TileRanks]) -> Result<Vec<Rank>, NoMemory>
+// the rank that shows each tile
+pub(crate) fn displays_of(alloc: Global, tiles: &[TileRanks]) -> Result<Vec<Rank>, NoMemory>
     ensures { IfOk result (λ all. all.items ≡ map (λ x. x.display) tiles.now) }
 {
     let mut all = Vec::new(alloc);
@@ -142,14 +134,10 @@ fn push_showing(ops: &mut Vec<Op>, rank: Rank, t: u32, tile: &TileRanks) -> Resu
     Ok(())
 }
 
-/// Appends what a tile's display does to get the contributors' images of tile `t`, folded from the left, into slot 0: it
-/// loads its own and takes the others; without contributors it is a blank.
-///
-/// # Errors
-///
-/// `NoMemory`; an unknown number of operations was appended.
+// appends what a tile's display does to get the contributors' images, folded from the left, into slot 0: it loads its own
+// and takes the others, and without contributors it is a blank
 #[tactic(auto, using(crate::proofs::DirectSteps::folds_more))]
-pub fn push_folds(ops: &mut Vec<Op>, t: u32, tile: &TileRanks) -> Result<(), NoMemory>
+pub(crate) fn push_folds(ops: &mut Vec<Op>, t: u32, tile: &TileRanks) -> Result<(), NoMemory>
     ensures { IfOk result (λ _. ops.new.items ≡ ops.old.items ++ folds t tile.now tile.now.contributors) }
 {
     let contributors = tile.contributors();
@@ -191,8 +179,8 @@ fn fetch(t: u32, tile: &TileRanks, slot: u32, contributor: Rank) -> Op
     }
 }
 
-/// The exchange of a whole image in round 0.
-pub fn whole(kind: Kind, peer: Rank, tile: u32, size: u32) -> Exchange
+// the exchange of a whole image in round 0
+pub(crate) fn whole(kind: Kind, peer: Rank, tile: u32, size: u32) -> Exchange
     ensures { result ≡ record { round = 0; kind = kind; peer = peer; tile = tile; lo = 0; hi = size } }
 {
     Exchange {

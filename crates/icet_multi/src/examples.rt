@@ -5,6 +5,7 @@ ghost use Rattle.icet_tree.specs.Tree.{tree_strategy};
 ghost use Rattle.icet_bswap.specs.Bswap.{bswap_strategy};
 ghost use Rattle.icet_radixk.specs.Factors.{factors};
 ghost use Rattle.icet_radixk.specs.Radixk.{radix_strategy};
+ghost use Rattle.icet_multi.specs.ReduceSamples.{brackets_by, by_tree, crossed_lines, crossed_wall, uneven_lines, uneven_wall};
 ghost use Rattle.icet_multi.specs.Samples.{collected_from, five_bracket, five_swap, four_bracket, four_group, from_rank, leaves, lines, m, pair_of_tiles, six_bracket, three_swap, tile};
 
 /// The tree over three ranks, and over two ranks and two tiles: empty images are sent too, and the second tile's
@@ -46,4 +47,21 @@ pub fn radix_k()
     ensures second { from_rank 1 four_group ≡ m 1 0 0 0 0 1 ∷ m 1 0 1 0 1 2 ∷ m 1 2 0 0 2 3 ∷ m 1 3 0 0 3 4 ∷ [] }
     ensures bracket { (radix_strategy 4).bracket (leaves 4) ≡ four_bracket }
     ensures two_and_three { (radix_strategy 3).bracket (leaves 6) ≡ six_bracket }
+{}
+
+/// Four ranks: one contributor serves no tile to which it contributes, and hands its image to the other group.
+pub fn uneven()
+    ensures first { from_rank 0 uneven_lines ≡ [] }
+    ensures second { from_rank 1 uneven_lines ≡ m 1 2 0 0 0 4 ∷ [] }
+    ensures third { from_rank 2 uneven_lines ≡ m 2 0 1 0 0 4 ∷ m 2 3 0 0 0 4 ∷ [] }
+    ensures fourth { from_rank 3 uneven_lines ≡ m 3 0 2 0 0 4 ∷ m 3 1 0 1 0 4 ∷ [] }
+    ensures brackets { brackets_by by_tree 4 uneven_wall ≡ Pair (Pair (Leaf 0) (Leaf 1)) (Leaf 2) ∷ Leaf 3 ∷ [] }
+{}
+
+/// Three ranks: the third place goes to the lower of two tiles that want it equally.
+pub fn crossed()
+    ensures first { from_rank 0 crossed_lines ≡ m 0 1 0 0 0 1 ∷ [] }
+    ensures second { from_rank 1 crossed_lines ≡ m 1 0 0 1 0 1 ∷ [] }
+    ensures third { from_rank 2 crossed_lines ≡ m 2 0 0 1 0 1 ∷ m 2 1 1 0 0 1 ∷ [] }
+    ensures brackets { brackets_by by_tree 3 crossed_wall ≡ Pair (Leaf 0) (Leaf 2) ∷ Pair (Leaf 1) (Leaf 2) ∷ [] }
 {}

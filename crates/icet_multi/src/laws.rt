@@ -3,6 +3,8 @@ ghost use Rattle.std.specs.Prelude.{◌≡◌};
 ghost use Rattle.icet_model.specs.Bracket.{leaves};
 ghost use Rattle.icet_multi.specs.Absent.{OthersDrawNothing};
 ghost use Rattle.icet_multi.specs.Direct.{TileView, tile_bracket};
+ghost use Rattle.icet_multi.specs.FilledSlot.{LegsBeginFromASlot};
+ghost use Rattle.icet_multi.specs.Reduce.{ReduceJoinsInOrder};
 ghost use Rattle.icet_multi.specs.Rules.{DirectIsByRule, RulesJoinInOrder};
 
 /// The leaves of a tile's bracket are its contributors, in their order. Whatever bracket has them as its
@@ -21,4 +23,15 @@ pub fn direct_by_rule()
 /// Each strategy's bracket of a tile joins all ranks in their order, or the tile's contributors in theirs.
 pub fn joins_in_order()
     ensures { RulesJoinInOrder }
+{}
+
+/// Over every strategy for one tile, the bracket of a tile joins the tile's contributors in their order.
+pub fn reduce_joins_in_order()
+    ensures { ReduceJoinsInOrder }
+{}
+
+/// A leg goes on from what its participants have in slot 0: where that is the whole image of the participant's leaf, it
+/// sends, takes and keeps what it does with an image of its own.
+pub fn legs_begin_from_a_slot()
+    ensures { LegsBeginFromASlot }
 {}

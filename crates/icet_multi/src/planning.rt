@@ -5,6 +5,7 @@ ghost use Rattle.icet_multi.specs.Strategies.{IsTileAt, KeepsOrder, tile_ranks};
 ghost use Rattle.icet_model.specs.declared.limits.TheConstants.{MAX_RANKS};
 
 use crate::direct::direct;
+use crate::reduce::reduce;
 use crate::sequential::sequential;
 use crate::settings::{Settings, Strategy};
 use icet_base::{NoMemory, Rank};
@@ -43,6 +44,7 @@ pub fn plan(
     match settings.strategy {
         Strategy::Sequential => sequential(alloc, order, &tiles, settings.single, settings.k),
         Strategy::Direct => direct(alloc, ranks, &tiles),
+        Strategy::Reduce => reduce(alloc, order, &tiles, settings.single, settings.k),
     }
 }
 

@@ -5,6 +5,8 @@ pub enum Strategy {
     Sequential,
     /// Every contributor to a tile sends its whole image of it to the tile's display.
     Direct,
+    /// Each tile is joined by a group of ranks of its own, all groups at once, by the strategy for one tile.
+    Reduce,
 }
 
 /// How one group of ranks joins its images of one tile.

@@ -10,14 +10,8 @@ use icet_base::{NoMemory, Rank};
 use icet_plan::{Bracket, Leg};
 use std::alloc::Global;
 
-/// The leg of these participants for a tile by the chosen strategy, from round `first` on: the participants are
-/// different ranks, at most 256, with one leaf each; the tile has fewer than 2^31 pixels and is shown by one of them.
-/// Where the strategy splits ranks into groups, its factors are up to `k`.
-///
-/// # Errors
-///
-/// `NoMemory`.
-pub fn exchange_plan(
+// the leg of these participants for a tile by the chosen strategy, from round `first` on
+pub(crate) fn exchange_plan(
     alloc: Global,
     order: &[Rank],
     leaves: &[Bracket],

@@ -14,12 +14,8 @@ pub(crate) fn hands_in(tile: &TileRanks, rank: Rank) -> bool
     is_among(rank, tile.contributors()) && rank != tile.display()
 }
 
-/// The bracket of the contributors' images, folded from the left.
-///
-/// # Errors
-///
-/// `NoMemory`.
-pub fn bracket_of(alloc: Global, tile: &TileRanks) -> Result<Bracket, NoMemory>
+// the contributors' images, folded from the left
+pub(crate) fn bracket_of(alloc: Global, tile: &TileRanks) -> Result<Bracket, NoMemory>
     ensures { IfOk result (λ b. b ≡ tile_bracket tile.now) }
 {
     fold_left(alloc, leaves(alloc, tile.contributors())?)

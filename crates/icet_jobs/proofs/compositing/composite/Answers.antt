@@ -6,7 +6,7 @@ use Rattle.icet_net.specs.Opening.{CanOpen, sides_of}
 use Rattle.icet_net.specs.Closing.{pictures_of}
 use Rattle.icet_jobs.specs.Nets.{piece_images}
 use Rattle.icet_jobs.specs.Composites.{rank_images}
-use Rattle.icet_jobs.proofs.SceneNets.{can_open, ordered}
+use Rattle.icet_jobs.proofs.SceneNets.{can_open, ordered, strategy_tiles}
 use Rattle.icet_jobs.proofs.ScenePictures.{shown}
 use Rattle.icet_jobs.proofs.SceneTraffic.{carried}
 use Rattle.icet_jobs.proofs.compositing.composite.Goals as goal
@@ -25,7 +25,7 @@ returns-clause-pictures g c =
     c.in_ok-pictures.ensures.pictures
     ∙ ap (λ (v : SceneView). pictures_of (record { plan = plan; cap = way.cap; strands = way.strands; sides = map sides_of v.tiles; pairs = pairs_of plan }) v.mode (piece_images c.in_ok-images.images.items)) c.scene.view_is
     ∙ ap (λ images. pictures_of (record { plan = plan; cap = way.cap; strands = way.strands; sides = map sides_of c.args.scene.now.tiles; pairs = pairs_of plan }) c.args.scene.now.mode (piece_images images)) c.in_ok-images.ensures
-    ∙ shown way.settings c.args.scene.now plan way.cap way.strands (pairs_of plan) (ordered c.args.scene.now c.ranks-ranks.ensures.lawful) c.in_ok-plan.ensures
+    ∙ shown way.settings c.args.scene.now plan way.cap way.strands (pairs_of plan) (ordered c.args.scene.now c.ranks-ranks.ensures.lawful) (strategy_tiles c.args.scene.now c.ranks-ranks.ensures.lawful) c.in_ok-plan.ensures
 
 pub returns-clause-log : goal.returns-clause-log
 returns-clause-log g c =

@@ -1,5 +1,0 @@
-use Rattle.icet_reduce.proofs.FilledLegs.{legs_begin}
-use Rattle.icet_reduce.proofs.laws.legs_begin_from_a_slot.Goals as goal
-
-pub returns : goal.returns
-returns c = legs_begin

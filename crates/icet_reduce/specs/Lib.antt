@@ -1,4 +1,0 @@
-pub mod FilledSlot
-pub mod Reduce
-pub mod Reduced
-pub mod ReduceSamples
