@@ -4,9 +4,9 @@ ghost use Rattle.std.specs.List.{AllByRecursion};
 ghost use Rattle.icet_multi.specs.Direct.{folds};
 ghost use Rattle.icet_multi.specs.Reduced.{blank_ops, handing, put_behind};
 
+use crate::direct::{push_folds, whole};
 use icet_base::{NoMemory, Rank};
 use icet_groups::TileRanks;
-use crate::direct::{push_folds, whole};
 use icet_plan::{Kind, Op, Program};
 use std::alloc::Global;
 use std::marker::Model;

@@ -9,11 +9,11 @@ ghost use Rattle.icet_multi.specs.Reduced.{AllHaveSeats, AreGroupLegs, AreGroups
 
 use crate::blocks::block_tile;
 use crate::drafts::{Draft, append, keep_blank};
-use icet_base::{NoMemory, Rank};
-use icet_groups::{Groups, TileRanks};
 use crate::settings::Single;
 use crate::single::exchange_plan;
 use crate::tile::bracket_of;
+use icet_base::{NoMemory, Rank};
+use icet_groups::{Groups, TileRanks};
 use icet_plan::{Bracket, Leg, Program};
 use std::alloc::Global;
 

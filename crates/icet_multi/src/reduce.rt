@@ -9,12 +9,12 @@ ghost use Rattle.icet_multi.specs.Reduce.{reduce_rule};
 ghost use Rattle.icet_multi.specs.Reduced.{AllHaveSeats, AreGroupsFor, all_ops, programs_in};
 
 use crate::blocks::{push_folds, push_sends};
+use crate::direct::{displays_of, sizes_of};
 use crate::drafts::{empty, finish};
 use crate::legs::{brackets_of, legs_of, push_blanks, push_legs};
+use crate::settings::Single;
 use icet_base::{NoMemory, Rank};
 use icet_groups::{Groups, TileRanks, groups};
-use crate::settings::Single;
-use crate::direct::{displays_of, sizes_of};
 use icet_plan::{Leg, Plan, Program};
 use std::alloc::Global;
 
