@@ -9,6 +9,7 @@ use Rattle.icet_text.specs.Lines.{lines_of}
 use Rattle.icet_scene_model.specs.Scene.{SceneView}
 use Rattle.icet_scene_model.specs.Texts.{Text, SceneText, Refused, text_is, text_behind}
 use Rattle.icet_scene_model.specs.declared.fault.SceneFault.TheVariants.{TooLong}
+use Rattle.icet_words.specs.CommandLine.{Command}
 use Rattle.icet_cli.specs.Outcome.{Outside, EndsAs, IsComplete}
 use Rattle.icet_cli.specs.declared.status.Status.{Status}
 use Rattle.icet_cli.specs.declared.status.Status.TheVariants.{Ok, SceneRefused, WordsRefused, ReadFault, WriteFault, NoMemory}
@@ -32,12 +33,15 @@ all_read (Some xs) (Some (y ∷ ys)) whole bytes e c end l =
     absurd (let e : y ∷ ys ≡ [] = end (omega (arith, count, l)) in cc)
 
 pub complete : (words : List (List ℕ)) (old new : Outside) (status : Status) → EndsAs words old new status → IsComplete words old new status
-complete words old new Ok ends command bytes scene read left valid sure_source sure_sink = inl refl
-complete words old new NoMemory ends command bytes scene read left valid sure_source sure_sink = inr refl
-complete words old new SceneRefused ends command bytes scene read left valid sure_source sure_sink =
+complete words old new Ok ends command scene read ready sure_source sure_sink = inl refl
+complete words old new NoMemory ends command scene read ready sure_source sure_sink = inr refl
+complete words old new SceneRefused ends command scene read ready sure_source sure_sink =
+    let reader = ends.0 in
     let refuses = ends.1 in
-    let same = ap text_is (all_read old.source.left new.source.left bytes refuses.bytes left refuses.all.read.consumed refuses.all.whole (short bytes scene valid)) in
-    absurd (let e : Refused refuses.fault ≡ SceneText scene = sym refuses.faulty ∙ (same ∙ valid) in cc)
-complete words old new WordsRefused ends command bytes scene read left valid sure_source sure_sink = absurd (let e : None ≡ Some command = sym ends.0 ∙ read in cc)
-complete words old new ReadFault ends command bytes scene read left valid sure_source sure_sink = absurd (sure_source ends.1)
-complete words old new WriteFault ends command bytes scene read left valid sure_source sure_sink = absurd (sure_sink ends.wrote.cause.failed)
+    let same_command : reader.command ≡ command = let e : Some reader.command ≡ Some command = sym reader.is ∙ read in cc in
+    let left = ready.read (λ demo. reader.reads (ap (λ (c : Command). c.job) same_command ∙ demo)) in
+    let same = ap text_is (all_read old.source.left new.source.left left.bytes refuses.bytes left.left refuses.all.read.consumed refuses.all.whole (short left.bytes scene left.valid)) in
+    absurd (let e : Refused refuses.fault ≡ SceneText scene = sym refuses.faulty ∙ (same ∙ left.valid) in cc)
+complete words old new WordsRefused ends command scene read ready sure_source sure_sink = absurd (let e : None ≡ Some command = sym ends.0 ∙ read in cc)
+complete words old new ReadFault ends command scene read ready sure_source sure_sink = absurd (sure_source ends.1)
+complete words old new WriteFault ends command scene read ready sure_source sure_sink = absurd (sure_sink ends.wrote.cause.failed)

@@ -1,5 +1,5 @@
 -- What the writers of the jobs leave is what a run promises of its job.
-use Rattle.std.proofs.Common.{◌≡◌, List, [], ◌++◌, Ok, Err, refl, sym, ap, ◌∙◌}
+use Rattle.std.proofs.Common.{◌≡◌, List, [], ◌++◌, Ok, Err, inl, inr, refl, sym, ap, ◌∙◌}
 use Rattle.std.proofs.lemmas.List.{append-nil}
 use Rattle.icet_model.specs.Core.{start}
 use Rattle.icet_model.specs.Pixel.{Pixel}
@@ -15,7 +15,7 @@ use Rattle.icet_scene_model.specs.declared.fault.SceneFault.TheVariants.{TooLong
 use Rattle.icet_scene.specs.Readings.{IsFaultOfText}
 use Rattle.icet_words.specs.CommandLine.{Command}
 use Rattle.icet_words.specs.declared.job.Job.{Job}
-use Rattle.icet_words.specs.declared.job.Job.TheVariants.{Composite, Traffic, Plan, Replay}
+use Rattle.icet_words.specs.declared.job.Job.TheVariants.{Composite, Traffic, Plan, Replay, Summary, Demo}
 use Rattle.icet_base.specs.declared.faults.WriteFault.{WriteFault}
 use Rattle.icet_plan_text.specs.PlanTexts.{plan_text, traffic_text}
 use Rattle.icet_jobs.specs.Composites.{IsPlanFor, brackets_of, composite_traffic}
@@ -24,8 +24,8 @@ use Rattle.icet_jobs.specs.declared.replay.JobFault.{JobFault}
 use Rattle.icet_jobs.specs.declared.replay.JobFault.TheVariants.{Write as JobWrite, NoMemory as JobMemory}
 use Rattle.icet_jobs.proofs.PlanExchanges.{plan_exchanges_are}
 use Rattle.icet_cli.specs.FaultNotes.{of_job, of_scene}
-use Rattle.icet_cli.specs.JobEndings.{EndsWith, Shown, shown}
-use Rattle.icet_cli.specs.Outcome.{text_for, job_text, traffic_for, job_traffic}
+use Rattle.icet_cli.specs.JobEndings.{EndsWith, Shown, SumsUp, shown}
+use Rattle.icet_cli.specs.Outcome.{text_for, job_text, summary_for, traffic_for, job_traffic}
 
 module _ (command : Command) (scene : SceneView) where
   job_is : (job : Job) → command.job ≡ job → text_for job command scene ≡ job_text command scene
@@ -50,6 +50,14 @@ module _ (command : Command) (scene : SceneView) where
 
   pub composite_carries : command.job ≡ Composite → composite_traffic command.settings scene ≡ job_traffic command scene
   composite_carries job = sym (ap (λ j. traffic_for j command scene) job)
+
+  pub summary_is : SumsUp command.job → summary_for command scene ≡ job_text command scene
+  summary_is (inl job) = job_is Summary job
+  summary_is (inr job) = job_is Demo job
+
+  pub summary_carries : SumsUp command.job → composite_traffic command.settings scene ≡ job_traffic command scene
+  summary_carries (inl job) = sym (ap (λ j. traffic_for j command scene) job)
+  summary_carries (inr job) = sym (ap (λ j. traffic_for j command scene) job)
 
   module _ {K : Type 0} (told : K → SinkView) (old new : K) (log : List (PairTraffic (List Pixel))) (job : Job) (is_job : command.job ≡ job) (none : traffic_for job command scene ≡ []) where
     pub job_written : WritesAll {E = WriteFault} (told old) (told new) (Ok tt) (job_text command scene) → EndsWith command (SceneText scene) (shown (told old) log) (shown (told new) log) (Ok tt)

@@ -1,7 +1,7 @@
 -- A source read piece by piece.
-use Rattle.std.proofs.Common.{◌≡◌, ℕ, ◌≤◌, List, ◌++◌, length, take, ◌∙◌, arith, length-append, length-take}
+use Rattle.std.proofs.Common.{◌≡◌, ℕ, ◌≤◌, List, [], ◌++◌, length, take, ◌∙◌, sym, subst, arith, length-append, length-take}
 use Rattle.std.specs.Io.KnownBytes.{Consumes, Keeps}
-use Rattle.std.proofs.KnownBytes.{Consumes-trans, Consumes-kept}
+use Rattle.std.proofs.KnownBytes.{Consumes-nil, Consumes-trans, Consumes-kept}
 use Rattle.icet_model.specs.declared.limits.TheConstants.{MAX_READ, MAX_SCENE_BYTES}
 use Rattle.icet_model.specs.Streams.{SourceView}
 use Rattle.icet_cli.specs.SceneBytes.{HasRead, ReadsFew}
@@ -16,6 +16,10 @@ read_more a b c all piece n read short full more well = record {
 
 pub few_read : (a b : SourceView) (all : List ℕ) → HasRead a b all → ReadsFew a b
 few_read a b all read = record { bytes = all; consumed = read.consumed; few = read.few }
+
+-- a source that was left alone
+pub nothing_read : (a b : SourceView) → b ≡ a → ReadsFew a b
+nothing_read a b same = subst (ReadsFew a) (sym same) (record { bytes = []; consumed = Consumes-nil a.left; few = omega arith })
 
 -- a read that failed behind these bytes
 pub few_kept : (a b c : SourceView) (all : List ℕ) → HasRead a b all → Keeps b.left c.left → ReadsFew a c

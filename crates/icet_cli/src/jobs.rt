@@ -1,13 +1,15 @@
-ghost use Rattle.std.specs.Prelude.{◌≡◌};
+ghost use Rattle.std.specs.Prelude.{◌≡◌, ◌≢◌};
+ghost use Rattle.icet_demo.specs.Demonstration.{demo_scene};
 ghost use Rattle.icet_scene_model.specs.Texts.{SceneText, text_is};
-ghost use Rattle.icet_words.specs.declared.job.Job.TheVariants.{Composite, Traffic, Plan, Replay};
+ghost use Rattle.icet_words.specs.declared.job.Job.TheVariants.{Composite, Traffic, Plan, Replay, Demo};
 ghost use Rattle.icet_cli.specs.FaultNotes.{status_for};
-ghost use Rattle.icet_cli.specs.JobEndings.{EndsWith, SceneJobEnds, shown};
+ghost use Rattle.icet_cli.specs.JobEndings.{EndsWith, IsWayOf, SceneJobEnds, SumsUp, shown};
 ghost use Rattle.icet_cli.specs.Untouched.{LeavesOwed, LeavesSink, LeavesWires};
 
 use crate::run_fault::RunFault;
 use icet_base::{Gate, Sink};
-use icet_jobs::{Way, composite, plan_of, write_pictures, write_replay};
+use icet_demo::demo_scene;
+use icet_jobs::{Way, composite, plan_of, write_pictures, write_replay, write_summary};
 use icet_plan_text::{write_plan, write_traffic};
 use icet_ring::Wires;
 use icet_scene::read::read;
@@ -16,7 +18,7 @@ use icet_words::{Command, Job};
 use std::alloc::Global;
 use std::thread::Threads;
 
-/// Does the job of a command with the scene of a text.
+/// Does the job of a command with the scene of a text. Condition: the job reads a scene.
 pub fn do_text<K: Sink, W: Wires, G: Gate, R: Threads + Sync>(
     rt: &R,
     alloc: Global,
@@ -26,6 +28,7 @@ pub fn do_text<K: Sink, W: Wires, G: Gate, R: Threads + Sync>(
     wires: &mut W,
     gate: &G,
 ) -> Result<(), RunFault>
+    requires { command.now.job ≢ Demo }
     ensures ends { EndsWith command.now (text_is bytes.now)
         (shown (K.told sink.old) (W.log wires.old)) (shown (K.told sink.new) (W.log wires.new)) result }
     ensures sink { LeavesSink (status_for result) sink.old sink.new }
@@ -38,6 +41,63 @@ pub fn do_text<K: Sink, W: Wires, G: Gate, R: Threads + Sync>(
         Job::Traffic => write_scene_traffic(alloc, command, &scene, sink),
         Job::Plan => write_scene_plan(alloc, command, &scene, sink),
         Job::Replay => replay_scene(alloc, command, &scene, sink),
+        Job::Summary => summarize_scene(rt, alloc, command, &scene, sink, wires, gate),
+        Job::Demo => unreachable!(),
+    }
+}
+
+/// Makes the scene of a command's seed, and sums its pictures up.
+pub fn do_demo<K: Sink, W: Wires, G: Gate, R: Threads + Sync>(
+    rt: &R,
+    alloc: Global,
+    command: &Command,
+    sink: &mut K,
+    wires: &mut W,
+    gate: &G,
+) -> Result<(), RunFault>
+    requires { command.now.job ≡ Demo }
+    ensures ends { EndsWith command.now (SceneText (demo_scene command.now.seed))
+        (shown (K.told sink.old) (W.log wires.old)) (shown (K.told sink.new) (W.log wires.new)) result }
+    ensures sink { LeavesSink (status_for result) sink.old sink.new }
+    ensures wires { LeavesWires (status_for result) wires.old wires.new }
+    ensures owed { LeavesOwed (status_for result) (W.owed wires.old) (W.owed wires.new) }
+{
+    let scene = demo_scene(alloc, command.seed())?;
+    summarize_scene(rt, alloc, command, &scene, sink, wires, gate)
+}
+
+/// Composites a scene and writes the summary of its pictures.
+fn summarize_scene<K: Sink, W: Wires, G: Gate, R: Threads + Sync>(
+    rt: &R,
+    alloc: Global,
+    command: &Command,
+    scene: &Scene,
+    sink: &mut K,
+    wires: &mut W,
+    gate: &G,
+) -> Result<(), RunFault>
+    requires { SumsUp command.now.job }
+    ensures ends { EndsWith command.now (SceneText scene.now)
+        (shown (K.told sink.old) (W.log wires.old)) (shown (K.told sink.new) (W.log wires.new)) result }
+    ensures sink { LeavesSink (status_for result) sink.old sink.new }
+    ensures wires { LeavesWires (status_for result) wires.old wires.new }
+    ensures owed { LeavesOwed (status_for result) (W.owed wires.old) (W.owed wires.new) }
+{
+    let outcome = composite(rt, alloc, scene, &way_of(command), wires, gate)?;
+    write_summary(sink, scene, &outcome)?;
+    Ok(())
+}
+
+/// How a command has scenes composited.
+fn way_of(command: &Command) -> Way
+    ensures { IsWayOf command.now result }
+{
+    Way {
+        settings: command.settings(),
+        cap: command.cap(),
+        workers: command.workers(),
+        burst: command.burst(),
+        strands: command.strands(),
     }
 }
 
@@ -58,14 +118,7 @@ fn composite_scene<K: Sink, W: Wires, G: Gate, R: Threads + Sync>(
     ensures wires { LeavesWires (status_for result) wires.old wires.new }
     ensures owed { LeavesOwed (status_for result) (W.owed wires.old) (W.owed wires.new) }
 {
-    let way = Way {
-        settings: command.settings(),
-        cap: command.cap(),
-        workers: command.workers(),
-        burst: command.burst(),
-        strands: command.strands(),
-    };
-    let outcome = composite(rt, alloc, scene, &way, wires, gate)?;
+    let outcome = composite(rt, alloc, scene, &way_of(command), wires, gate)?;
     write_pictures(sink, scene, &outcome)?;
     Ok(())
 }

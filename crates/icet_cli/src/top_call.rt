@@ -1,16 +1,17 @@
-ghost use Rattle.std.specs.Prelude.{◌≢◌, Err};
+ghost use Rattle.std.specs.Prelude.{◌≡◌, ◌≢◌, Err, IsTrue, false};
+ghost use Rattle.icet_words.specs.declared.job.Job.TheVariants.{Demo};
 ghost use Rattle.icet_cli.specs.FaultNotes.{status_for, CommandEnds, Ends};
 ghost use Rattle.icet_cli.specs.Outcome.{outside, texts, work, RunsTo};
 ghost use Rattle.icet_cli.specs.Untouched.{LeavesNotes, LeavesOwed, LeavesSink, LeavesSource, LeavesWires};
 
-use crate::jobs::do_text;
+use crate::jobs::{do_demo, do_text};
 use crate::notes::note_fault;
 use crate::run_fault::RunFault;
 use crate::scene_bytes::read_all;
 use crate::status::Status;
 use icet_base::{Gate, Sink, Source};
 use icet_ring::Wires;
-use icet_words::{Command, read_words};
+use icet_words::{Command, Job, read_words};
 use std::alloc::Global;
 use std::thread::Threads;
 
@@ -86,6 +87,20 @@ fn run_command<S: Source, K: Sink, W: Wires, G: Gate, R: Threads + Sync>(
     ensures owed { LeavesOwed (status_for result) (W.owed wires.old) (W.owed wires.new) }
     ensures words_taken { result ≢ Err RunFault.Words }
 {
+    if makes_scene(command.job()) {
+        return do_demo(rt, alloc, command, sink, wires, gate);
+    }
     let bytes = read_all(alloc, source)?;
     do_text(rt, alloc, command, bytes.as_slice(), sink, wires, gate)
+}
+
+/// Whether the job makes its scene, and reads none.
+fn makes_scene(job: Job) -> bool
+    ensures made { IsTrue result → job ≡ Demo }
+    ensures read { result ≡ false → job ≢ Demo }
+{
+    match job {
+        Job::Demo => true,
+        Job::Composite | Job::Traffic | Job::Plan | Job::Replay | Job::Summary => false,
+    }
 }

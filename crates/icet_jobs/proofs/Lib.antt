@@ -8,3 +8,4 @@ pub mod SceneImages
 pub mod SceneNets
 pub mod ScenePictures
 pub mod SceneTraffic
+pub mod Weighed

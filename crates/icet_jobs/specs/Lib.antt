@@ -2,3 +2,4 @@ pub mod Composites
 pub mod Nets
 pub mod Replays
 pub mod Texts
+pub mod Weights

@@ -7,6 +7,7 @@ use Rattle.icet_model.specs.Streams.{SinkView, WritesAll}
 use Rattle.icet_scene_model.specs.Picture.{picture_text}
 use Rattle.icet_scene_model.specs.Scene.{SceneView}
 use Rattle.icet_base.specs.declared.faults.WriteFault.{WriteFault}
+use Rattle.icet_summary.specs.Summaries.{finish, summary_text}
 use Rattle.icet_jobs.specs.declared.replay.JobFault.{JobFault}
 use Rattle.icet_jobs.specs.declared.replay.JobFault.TheVariants.{Write, NoMemory}
 
@@ -17,6 +18,10 @@ pictures_text wide mode background pictures = flat_map (λ picture. picture_text
 -- the texts of a scene's pictures
 abbrev pub texts_of : SceneView → List DenseView → List ℕ
 texts_of scene pictures = pictures_text scene.wide scene.mode scene.background pictures
+
+-- the summary of a scene's pictures, whose images have this weight
+abbrev pub summary_of : SceneView → List DenseView → ℕ → List ℕ
+summary_of scene pictures weight = summary_text (finish scene.wide scene.mode scene.background) pictures weight
 
 -- writing a text that takes memory first: where it is wanting, the sink is as it was
 abbrev pub WritesText : {K : Type 0} → (K → SinkView) → K → K → Result (Unit {0}) JobFault → List ℕ → Type 0

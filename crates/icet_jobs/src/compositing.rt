@@ -1,9 +1,11 @@
 ghost use Rattle.std.specs.Prelude.{◌≡◌, ◌≤◌, ◌++◌, IfOk, OnOk, OnErr};
 ghost use Rattle.icet_jobs.specs.Composites.{composite_traffic, plain_pictures};
+ghost use Rattle.icet_jobs.specs.Weights.{scene_weight};
 
 use crate::imaging::images_of;
 use crate::net::run_net;
 use crate::planning::plan_of;
+use crate::weighing::weigh;
 use icet_base::{Gate, NoMemory};
 use icet_multi::Settings;
 use icet_net::Pictures;
@@ -23,10 +25,12 @@ pub struct Way {
     pub strands: u32,
 }
 
-/// What came of compositing a scene: the pictures, one per tile.
+/// What came of compositing a scene: the pictures, one per tile, and the weight of the images that the ranks drew: eight for
+/// each maximal run of drawn pixels, and eight for each drawn pixel.
 #[derive(Drop)]
 pub struct Outcome {
     pub pictures: Pictures,
+    pub weight: u64,
 }
 
 /// Composites a scene: makes the plan, draws each rank's images, moves them through a net over the
@@ -50,13 +54,16 @@ pub fn composite<W: Wires, G: Gate, R: Threads + Sync>(
     requires strands { way.now.strands ≡ 1 }
     requires split { 2 ≤ way.now.settings.k }
     ensures pictures { IfOk result (λ outcome. outcome.pictures ≡ plain_pictures way.now.settings scene.now) }
+    ensures weight { IfOk result (λ outcome. outcome.weight ≡ scene_weight scene.now) }
     ensures log { OnOk result (W.log wires.new ≡ W.log wires.old ++ composite_traffic way.now.settings scene.now) }
     ensures owed { OnOk result (W.owed wires.new ≡ W.owed wires.old) }
     ensures kept { OnErr result (W.log wires.new ≡ W.log wires.old) }
 {
+    let tiles = scene.layout.count();
     let _ranks = scene.ranks();
     let plan = plan_of(alloc, scene, &way.settings)?;
     let images = images_of(alloc, scene)?;
+    let weight = weigh(images.as_slice(), tiles);
     let pictures = run_net(
         rt,
         alloc,
@@ -68,5 +75,5 @@ pub fn composite<W: Wires, G: Gate, R: Threads + Sync>(
         wires,
         gate,
     )?;
-    Ok(Outcome { pictures })
+    Ok(Outcome { pictures, weight })
 }

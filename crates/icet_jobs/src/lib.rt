@@ -7,6 +7,8 @@ pub mod net;
 pub mod pictures;
 pub mod planning;
 pub mod replay;
+pub mod summary;
+pub mod weighing;
 
 pub use compositing::{Outcome, Way, composite};
 pub use imaging::images_of;
@@ -14,3 +16,5 @@ pub use net::run_net;
 pub use pictures::write_pictures;
 pub use planning::plan_of;
 pub use replay::{JobFault, write_replay};
+pub use summary::write_summary;
+pub use weighing::weigh;

@@ -8,3 +8,5 @@ mod runs;
 mod scenes;
 #[cfg(test)]
 mod strategies;
+#[cfg(test)]
+mod watching;

@@ -1,6 +1,7 @@
 //! Whole runs over memory: each status, what was written, and what was noted.
 ghost use Rattle.std.specs.Prelude.{◌≤◌, None};
 
+use crate::scenes::WALL as UNEVEN;
 use icet_base::{
     Gate, MemSink, MemSource, NoMemory, PlainGate, Rank, ReadFault, Source, SureSink, SureSource,
 };
@@ -18,10 +19,10 @@ use std::thread::Threads;
 
 const WORDS: [&str; 3] = ["composite", "--strategy", "direct"];
 
-const POINT: &str =
+pub(crate) const POINT: &str =
     "icet-scene 1\nmode depth\nranks 1\ntile 0 0 1 1 0\npoint 0 0 0 7 10 20 30 255\nend\n";
 
-const PICTURE: &[u8] =
+pub(crate) const PICTURE: &[u8] =
     b"P7\nWIDTH 1\nHEIGHT 1\nDEPTH 4\nMAXVAL 255\nTUPLTYPE RGB_ALPHA\nENDHDR\n\x0a\x14\x1e\xff";
 
 /// Points in and around a tile that doesn't begin at the corner; of equal depths the earlier one shows.
@@ -99,6 +100,13 @@ pub(crate) struct Came {
     notes: MemSink,
 }
 
+impl Came {
+    /// Whether all went well and exactly these bytes were written.
+    pub(crate) fn wrote(&self, bytes: &[u8]) -> bool {
+        self.status == Status::Ok && self.sink.bytes() == bytes
+    }
+}
+
 /// What comes of a run over memory, where the sink takes 40 bytes a call and fails at the call with this
 /// number.
 fn came_of<R: Threads + Sync>(
@@ -108,23 +116,30 @@ fn came_of<R: Threads + Sync>(
     source: &mut MemSource,
     fails: u64,
 ) -> Result<Came, NoMemory> {
-    came_over(rt, alloc, words, source, fails, &mut MemWires::new(alloc))
+    came_through(
+        rt,
+        alloc,
+        words,
+        source,
+        fails,
+        &mut MemWires::new(alloc),
+        &PlainGate,
+    )
 }
 
-/// The same over these wires.
-fn came_over<R: Threads + Sync, W: Wires>(
+/// The same over these wires, through this gate.
+fn came_through<R: Threads + Sync, W: Wires, G: Gate>(
     rt: &R,
     alloc: Global,
     words: &[&str],
     source: &mut MemSource,
     fails: u64,
     wires: &mut W,
+    gate: &G,
 ) -> Result<Came, NoMemory> {
     let mut sink = MemSink::new(alloc, 1024, 40, vec![in alloc; fails]?)?;
     let mut notes = MemSink::new(alloc, 1024, 1024, Vec::new(alloc))?;
-    let status = run(
-        rt, alloc, words, source, &mut sink, &mut notes, wires, &PlainGate,
-    );
+    let status = run(rt, alloc, words, source, &mut sink, &mut notes, wires, gate);
     Ok(Came {
         status,
         sink,
@@ -139,7 +154,40 @@ pub(crate) fn came_of_scene<R: Threads + Sync>(
     words: &[&str],
     scene: &str,
 ) -> Result<Came, NoMemory> {
+    came_over(
+        rt,
+        alloc,
+        words,
+        scene,
+        &mut MemWires::new(alloc),
+        &PlainGate,
+    )
+}
+
+/// The same over these wires, through this gate.
+pub(crate) fn came_over<R: Threads + Sync, W: Wires, G: Gate>(
+    rt: &R,
+    alloc: Global,
+    words: &[&str],
+    scene: &str,
+    wires: &mut W,
+    gate: &G,
+) -> Result<Came, NoMemory> {
     let mut source = source_of(alloc, scene, NEVER)?;
+    came_through(rt, alloc, words, &mut source, NEVER, wires, gate)
+}
+
+/// What comes of a run on the first bytes of this scene, so many of them, in which nothing fails.
+pub(crate) fn came_of_front<R: Threads + Sync>(
+    rt: &R,
+    alloc: Global,
+    words: &[&str],
+    scene: &str,
+    count: usize,
+) -> Result<Came, NoMemory> {
+    let text = scene.as_bytes();
+    let front = Vec::from_slice(alloc, &text[..count.min(text.len())])?;
+    let mut source = MemSource::new(front, 10, vec![in alloc; NEVER]?);
     came_of(rt, alloc, words, &mut source, NEVER)
 }
 
@@ -180,6 +228,7 @@ fn each_command_writes_its_text(rt: HostRuntime) {
             b"0 stalled\n1 moved\n0 moved\n1 done\n0 done\nfinished\n",
         ),
         ("replay", "1", "0", b"0 stalled\nunfinished 0\n"),
+        ("summary", "1", "0", b"tile 0 1 1 0 1 1 1 255\nweight 32\n"),
         ("replay", "64", "2,1", b"2 absent\n1 moved\nunfinished 0\n"),
     ] {
         let words = [
@@ -225,7 +274,7 @@ fn a_fault_in_mid_stream_is_answered(rt: HostRuntime) {
 }
 
 /// Five ranks that draw nothing, over seven pixels.
-const FIVE_RANKS: &str = "icet-scene 1\nmode depth\nranks 5\ntile 0 0 7 1 0\nend\n";
+pub(crate) const FIVE_RANKS: &str = "icet-scene 1\nmode depth\nranks 5\ntile 0 0 7 1 0\nend\n";
 
 /// Three ranks that draw nothing; the display swaps with nobody.
 const OUTSIDE: &str = "icet-scene 1\nmode depth\nranks 3\ntile 0 0 4 1 1\nend\n";
@@ -244,6 +293,7 @@ fn a_plan_is_told_as_its_words_ask(rt: HostRuntime) {
         "--seed=0",
     ];
     let direct = ["--strategy", "direct", "--burst", "1"];
+    let reduce = ["--strategy=reduce", "--single=tree", "--k=2", "--seed=0"];
     for (options, job, scene, written) in [
         (
             tree,
@@ -264,6 +314,12 @@ fn a_plan_is_told_as_its_words_ask(rt: HostRuntime) {
             TWO_RANKS,
             b"tile 0 (0 1)\nrank 0 take 0 1 0 0 1\nrank 1 send 0 0 0 0 1\n",
         ),
+        (
+            reduce,
+            "traffic",
+            UNEVEN,
+            b"1 2 0 0 0 4\n2 0 1 0 0 4\n2 3 0 0 0 4\n3 0 2 0 0 4\n3 1 0 1 0 4\n",
+        ),
         (direct, "plan", NOTHING, b"tile 0 -\n"),
         (direct, "traffic", NOTHING, b""),
     ] {
@@ -282,29 +338,16 @@ fn came_over_rings<R: Threads + Sync>(
     scene: &str,
     blind: u64,
 ) -> Result<Came, NoMemory> {
-    let mut source = source_of(alloc, scene, NEVER)?;
     if blind == 0 {
-        return came_over(
-            rt,
-            alloc,
-            words,
-            &mut source,
-            NEVER,
-            &mut RingWires::new(alloc),
-        );
+        let mut wires = RingWires::new(alloc);
+        return came_over(rt, alloc, words, scene, &mut wires, &PlainGate);
     }
     let mut calls = Vec::new(alloc);
     for call in 0..blind {
         calls.push(call)?;
     }
-    came_over(
-        rt,
-        alloc,
-        words,
-        &mut source,
-        NEVER,
-        &mut ScriptWires::new(alloc, calls),
-    )
+    let mut wires = ScriptWires::new(alloc, calls);
+    came_over(rt, alloc, words, scene, &mut wires, &PlainGate)
 }
 
 // Whatever the wires miss, the same bytes are written.
@@ -372,7 +415,7 @@ fn other_words_are_refused_with_nothing_read(rt: HostRuntime) {
         [].as_slice(),
         &["compose"],
         &["composite", "extra"],
-        &["composite", "--strategy", "reduce"],
+        &["composite", "--strategy", "tree"],
         &["composite", "--cap", "0"],
         &["composite", "--cap", "65"],
         &["composite", "--cap", "2", "--cap", "2"],
@@ -556,17 +599,18 @@ fn a_rank_makes_as_many_exchanges_as_its_burst(rt: HostRuntime) {
     }
 }
 
-/// A source of so many bytes, none of which ends a line.
+/// A source of so many newlines.
 #[derive(Drop)]
-struct Zeros {
+struct Newlines {
     left: usize,
 }
 
-impl Source for Zeros {
+impl Source for Newlines {
     ghost told = { λ _. record { left = None; faults = 0 } };
 
     fn read(&mut self, buf: &mut [u8]) -> Result<usize, ReadFault> {
         let n = buf.len().min(self.left);
+        buf[..n].fill(b'\n');
         self.left -= n;
         Ok(n)
     }
@@ -576,7 +620,7 @@ impl Source for Zeros {
 fn status_of<R: Threads + Sync>(
     rt: &R,
     alloc: Global,
-    source: &mut Zeros,
+    source: &mut Newlines,
     notes: &mut MemSink,
 ) -> Status {
     run(
@@ -594,7 +638,7 @@ fn status_of<R: Threads + Sync>(
 #[test]
 fn a_text_too_long_is_refused_and_not_read_on(rt: HostRuntime) {
     for (len, left) in [(67_108_865, 0), (4_294_967_296, 4_294_967_296 - 67_174_400)] {
-        let mut source = Zeros { left: len };
+        let mut source = Newlines { left: len };
         match MemSink::new(rt.alloc(), 1024, 1024, Vec::new(rt.alloc())) {
             Ok(mut notes) => {
                 let status = status_of(&rt, rt.alloc(), &mut source, &mut notes);

@@ -1,5 +1,5 @@
 //! Scenes of both versions of the text: their pictures, and the line of each fault.
-use crate::runs::{Want, assert_came, came_of_scene, done, fault};
+use crate::runs::{PICTURE, POINT, Want, assert_came, came_of_front, came_of_scene, done, fault};
 use icet_cli::Status;
 
 /// Two triangles of two ranks that share an edge.
@@ -22,7 +22,7 @@ const DEEP_REDS: &str =
     "icet-scene 2\nmode blend\nranks 2\nmaxval 65535\norder 0 1\ntile 0 0 1 1 0\npoint 0 0 0 0 0 0 0 32768\npoint 1 0 0 0 100 0 0 65535\nend\n";
 
 /// Two tiles side by side, which four ranks draw into.
-const WALL: &str =
+pub(crate) const WALL: &str =
     "icet-scene 1\nmode depth\nranks 4\ntile 0 0 4 1 0\ntile 4 0 4 1 1\npoint 0 0 0 1 9 9 9 255\npoint 1 1 0 1 9 9 9 255\npoint 2 2 0 1 9 9 9 255\npoint 3 5 0 1 9 9 9 255\nend\n";
 
 const WALL_PICTURES: &[u8] =
@@ -34,6 +34,8 @@ const TWO_TILES: &str = "icet-scene 1\nmode depth\nranks 2\ntile 0 0 1 1 0\ntile
 const DIRECT: &[&str] = &["composite", "--strategy", "direct"];
 
 const TREE: &[&str] = &["composite", "--strategy=sequential", "--single=tree"];
+
+const REDUCE: &[&str] = &["composite", "--single=tree"];
 
 const SWAP: &[&str] = &["composite", "--strategy=sequential", "--single=bswap"];
 
@@ -55,6 +57,12 @@ fn each_mode_shows_its_composite(rt: HostRuntime) {
             REDS,
             b"P7\nWIDTH 1\nHEIGHT 1\nDEPTH 4\nMAXVAL 255\nTUPLTYPE RGB_ALPHA\nENDHDR\n\x18\x00\x00\xff",
         ),
+        (
+            REDUCE,
+            REDS,
+            b"P7\nWIDTH 1\nHEIGHT 1\nDEPTH 4\nMAXVAL 255\nTUPLTYPE RGB_ALPHA\nENDHDR\n\x19\x00\x00\xff",
+        ),
+        (REDUCE, WALL, WALL_PICTURES),
         (
             DIRECT,
             DEEP_REDS,
@@ -173,5 +181,40 @@ fn each_fault_has_its_line(rt: HostRuntime) {
     ] {
         let came = came_of_scene(&rt, rt.alloc(), DIRECT, scene);
         assert_came(&rt, &came, refused(noted), scene);
+    }
+}
+
+/// The line that refuses the first bytes of the scene of one point, so many of them and fewer than 77: lines 1 to 5
+/// have their newlines at 12, 23, 31, 46 and 73.
+fn line_of_cut(count: usize) -> &'static str {
+    match count {
+        0 => "icet: missing head\n",
+        1..=11 => "icet: line 1: not a line of the format\n",
+        12..=13 => "icet: missing mode\n",
+        14..=22 => "icet: line 2: not a line of the format\n",
+        23..=24 => "icet: missing ranks\n",
+        25..=30 => "icet: line 3: not a line of the format\n",
+        31..=32 => "icet: missing tile\n",
+        33..=45 => "icet: line 4: not a line of the format\n",
+        46..=47 => "icet: missing end\n",
+        48..=70 => "icet: line 5: not a line of the format\n",
+        71..=72 => "icet: line 5: colour not premultiplied\n",
+        73..=74 => "icet: missing end\n",
+        _ => "icet: line 6: not a line of the format\n",
+    }
+}
+
+// The last line's newline may be missing.
+#[test]
+fn each_cut_of_a_scene_has_its_line(rt: HostRuntime) {
+    for count in 0..=78 {
+        let noted = line_of_cut(count);
+        let want = if count < 77 {
+            refused(noted)
+        } else {
+            done(PICTURE)
+        };
+        let came = came_of_front(&rt, rt.alloc(), DIRECT, POINT, count);
+        assert_came(&rt, &came, want, noted);
     }
 }

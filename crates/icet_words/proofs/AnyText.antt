@@ -23,7 +23,7 @@ use Rattle.icet_words.specs.declared.job.Job.TheVariants.{Composite}
 
 abbrev with_cap : ValueParser → List Rule
 with_cap q = required_word (codes "job")
-    ∷ option_or (codes "strategy") (codes "direct")
+    ∷ option_or (codes "strategy") (codes "reduce")
     ∷ option_or (codes "single") (codes "radixk")
     ∷ number_or (codes "k") (codes "8") 2 64
     ∷ record (option_or (codes "cap") (codes "4")) { parser = Some q }

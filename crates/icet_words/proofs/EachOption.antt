@@ -17,7 +17,7 @@ use Rattle.icet_words.specs.CommandLine.{command_from, found_unless, icet, optio
 use Rattle.icet_words.specs.Full.{Texts, are_in_range, in_full, name_of, read_each, words_in_full}
 use Rattle.icet_words.proofs.Readings.{reading_is}
 use Rattle.icet_words.specs.declared.job.Job.{Job}
-use Rattle.icet_words.specs.declared.job.Job.TheVariants.{Composite, Traffic, Plan, Replay}
+use Rattle.icet_words.specs.declared.job.Job.TheVariants.{Composite, Traffic, Plan, Replay, Summary, Demo}
 
 abbrev by : Text → Text → ValueParser → Rule
 by name plain q = record (option_or name plain) { parser = Some q }
@@ -25,7 +25,7 @@ by name plain q = record (option_or name plain) { parser = Some q }
 abbrev app : (q1 q2 q3 q4 q5 q6 : ValueParser) → App
 app q1 q2 q3 q4 q5 q6 = on_top (λ s. record s {
   rules = required_word (codes "job")
-      ∷ option_or (codes "strategy") (codes "direct")
+      ∷ option_or (codes "strategy") (codes "reduce")
       ∷ option_or (codes "single") (codes "radixk")
       ∷ by (codes "k") (codes "8") q1
       ∷ by (codes "cap") (codes "4") q2
@@ -78,6 +78,8 @@ faults q1 q2 q3 q4 q5 q6 Composite t = refl
 faults q1 q2 q3 q4 q5 q6 Traffic t = refl
 faults q1 q2 q3 q4 q5 q6 Plan t = refl
 faults q1 q2 q3 q4 q5 q6 Replay t = refl
+faults q1 q2 q3 q4 q5 q6 Summary t = refl
+faults q1 q2 q3 q4 q5 q6 Demo t = refl
 
 values : (job : Job) (t : Texts) → command_from (matches_of icet (words_in_full (name_of job) t)) ≡ read_each job t
 unfolding clap_on_literals
@@ -85,6 +87,8 @@ values Composite t = refl
 values Traffic t = refl
 values Plan t = refl
 values Replay t = refl
+values Summary t = refl
+values Demo t = refl
 
 chosen : (b : Bool) (job : Job) (t : Texts) (rows : List Row) → command_from rows ≡ read_each job t → option_and_then command_from (cond b (Some rows) None) ≡ cond b (read_each job t) None
 chosen true job t rows e = e

@@ -15,9 +15,9 @@ use Rattle.icet_words.specs.Schedules.{schedule_of}
 use Rattle.icet_model.specs.declared.limits.TheConstants.{MIN_RADIX, MAX_RADIX, MAX_CAPACITY, MAX_WORKERS, MAX_BURST}
 use Rattle.icet_words.specs.declared.job.Job.{Job}
 use Rattle.icet_multi.specs.declared.settings.Settings.{Settings}
-use Rattle.icet_words.specs.declared.job.Job.TheVariants.{Composite, Traffic, Plan, Replay}
+use Rattle.icet_words.specs.declared.job.Job.TheVariants.{Composite, Traffic, Plan, Replay, Summary, Demo}
 use Rattle.icet_multi.specs.declared.settings.Strategy.{Strategy}
-use Rattle.icet_multi.specs.declared.settings.Strategy.TheVariants.{Sequential, Direct}
+use Rattle.icet_multi.specs.declared.settings.Strategy.TheVariants.{Sequential, Direct, Reduce}
 use Rattle.icet_multi.specs.declared.settings.Single.{Single}
 use Rattle.icet_multi.specs.declared.settings.Single.TheVariants.{Tree, Bswap, Radixk}
 
@@ -39,7 +39,7 @@ number_or name plain least most = record (option_or name plain) { parser = Some 
 
 abbrev pub arguments : List Rule
 arguments = required_word (codes "job")
-    ∷ option_or (codes "strategy") (codes "direct")
+    ∷ option_or (codes "strategy") (codes "reduce")
     ∷ option_or (codes "single") (codes "radixk")
     ∷ number_or (codes "k") (codes "8") MIN_RADIX MAX_RADIX
     ∷ number_or (codes "cap") (codes "4") 1 MAX_CAPACITY
@@ -80,11 +80,14 @@ abbrev pub job_of : Text → Option Job
 job_of word = cond (is (codes "composite") word) (Some Composite)
     (cond (is (codes "traffic") word) (Some Traffic)
     (cond (is (codes "plan") word) (Some Plan)
-    (cond (is (codes "replay") word) (Some Replay) None)))
+    (cond (is (codes "replay") word) (Some Replay)
+    (cond (is (codes "summary") word) (Some Summary)
+    (cond (is (codes "demo") word) (Some Demo) None)))))
 
 abbrev pub strategy_of : Text → Option Strategy
 strategy_of word = cond (is (codes "sequential") word) (Some Sequential)
-    (cond (is (codes "direct") word) (Some Direct) None)
+    (cond (is (codes "direct") word) (Some Direct)
+    (cond (is (codes "reduce") word) (Some Reduce) None))
 
 abbrev pub single_of : Text → Option Single
 single_of word = cond (is (codes "tree") word) (Some Tree)

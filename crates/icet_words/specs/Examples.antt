@@ -8,12 +8,12 @@ use Rattle.icet_words.specs.CommandLine.{Command, reading}
 use Rattle.icet_words.specs.declared.job.Job.{Job}
 use Rattle.icet_words.specs.declared.job.Job.TheVariants.{Composite}
 use Rattle.icet_multi.specs.declared.settings.Strategy.{Strategy}
-use Rattle.icet_multi.specs.declared.settings.Strategy.TheVariants.{Direct}
+use Rattle.icet_multi.specs.declared.settings.Strategy.TheVariants.{Reduce}
 use Rattle.icet_multi.specs.declared.settings.Single.TheVariants.{Radixk}
 
 -- a job with no option
 abbrev pub plain : Job → Command
-plain job = record { job = job; settings = record { strategy = Direct; single = Radixk; k = 8 }; cap = 4; workers = 2; burst = 16; strands = 1; schedule = []; seed = 1 }
+plain job = record { job = job; settings = record { strategy = Reduce; single = Radixk; k = 8 }; cap = 4; workers = 2; burst = 16; strands = 1; schedule = []; seed = 1 }
 
 -- with this strategy and greatest factor
 abbrev pub planned : Strategy → ℕ → Command → Command

@@ -7,7 +7,7 @@ use Rattle.clap.specs.ValueTests.{is_unsigned_in}
 use Rattle.icet_words.specs.Schedules.{schedule_of}
 use Rattle.icet_words.specs.CommandLine.{Command, settings_from, single_of, strategy_of}
 use Rattle.icet_words.specs.declared.job.Job.{Job}
-use Rattle.icet_words.specs.declared.job.Job.TheVariants.{Composite, Traffic, Plan, Replay}
+use Rattle.icet_words.specs.declared.job.Job.TheVariants.{Composite, Traffic, Plan, Replay, Summary, Demo}
 
 -- the texts of the values
 pub record Texts : Type 0 where
@@ -26,6 +26,8 @@ name_of Composite = codes "composite"
 name_of Traffic = codes "traffic"
 name_of Plan = codes "plan"
 name_of Replay = codes "replay"
+name_of Summary = codes "summary"
+name_of Demo = codes "demo"
 
 abbrev pub words_in_full : Text → Texts → List Text
 words_in_full job t = job

@@ -209,6 +209,10 @@ fn job_of(word: &str) -> Option<Job>
         Some(Job::Plan)
     } else if word == "replay" {
         Some(Job::Replay)
+    } else if word == "summary" {
+        Some(Job::Summary)
+    } else if word == "demo" {
+        Some(Job::Demo)
     } else {
         None
     }
@@ -221,6 +225,8 @@ fn strategy_of(word: &str) -> Option<Strategy>
         Some(Strategy::Sequential)
     } else if word == "direct" {
         Some(Strategy::Direct)
+    } else if word == "reduce" {
+        Some(Strategy::Reduce)
     } else {
         None
     }

@@ -3,7 +3,7 @@ ghost use Rattle.std.specs.Prelude.{◌≡◌, [], ◌∷◌, ◌++◌, Some, No
 ghost use Rattle.icet_words.specs.CommandLine.{reading};
 ghost use Rattle.icet_words.specs.Examples.{cap, capped, compositing, number_of, plain, planned, typed};
 ghost use Rattle.icet_words.specs.declared.job.Job.TheVariants.{Composite, Replay};
-ghost use Rattle.icet_multi.specs.declared.settings.Strategy.TheVariants.{Sequential, Direct};
+ghost use Rattle.icet_multi.specs.declared.settings.Strategy.TheVariants.{Sequential, Reduce};
 ghost use Rattle.icet_multi.specs.declared.settings.Single.TheVariants.{Radixk};
 ghost use Rattle.clap.specs.Walk.{Text};
 ghost use Rattle.icet_words.specs.Full.{Texts, in_full, name_of, words_in_full};
@@ -13,7 +13,7 @@ ghost use Rattle.icet_words.specs.declared.job.Job.{Job};
 pub fn taken()
     ensures alone { typed (codes "composite") ≡ Some (plain Composite) }
     ensures before { typed (codes "--strategy=sequential composite") ≡ Some (planned Sequential 8 (plain Composite)) }
-    ensures two { typed (codes "composite --cap=64 --k 2") ≡ Some (planned Direct 2 (capped 64)) }
+    ensures two { typed (codes "composite --cap=64 --k 2") ≡ Some (planned Reduce 2 (capped 64)) }
     ensures schedule { typed (codes "replay --schedule 3,1") ≡ Some (record (plain Replay) { schedule = 3 ∷ 1 ∷ [] }) }
 {}
 

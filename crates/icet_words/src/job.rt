@@ -9,4 +9,8 @@ pub enum Job {
     Plan,
     /// What each rank of a schedule did when it was told to go on.
     Replay,
+    /// How much of each tile nobody drew, the sums of its samples, and the weight of all images.
+    Summary,
+    /// The summary of a scene that is made from a seed.
+    Demo,
 }

@@ -46,7 +46,7 @@ fn command_line<'a>(alloc: Global) -> Result<Command<'a>, AllocError>
         .no_binary_name(true)
         .disable_help_flag(true)
         .arg(required_word(alloc, "job"))?
-        .arg(option_or(alloc, "strategy", "direct"))?
+        .arg(option_or(alloc, "strategy", "reduce"))?
         .arg(option_or(alloc, "single", "radixk"))?
         .arg(number_or(alloc, "k", "8", MIN_RADIX as u64, MAX_RADIX as u64))?
         .arg(number_or(alloc, "cap", "4", 1, MAX_CAPACITY as u64))?

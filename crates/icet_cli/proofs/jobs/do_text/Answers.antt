@@ -1,7 +1,7 @@
 use Rattle.icet_cli.proofs.jobs.do_text.Goals as goal
 
-pub returns-clause-ends : goal.returns-clause-ends
-returns-clause-ends g c = rw c.in_ok-scene.ensures.reading (c.replay_scene.ensures.ends (g.W.Wires.log c.args.wires.now))
+pub returns-in-Replay-clause-ends : goal.returns-in-Replay-clause-ends
+returns-in-Replay-clause-ends g c = rw c.in_ok-scene.ensures.reading (c.replay_scene.ensures.ends (g.W.Wires.log c.args.wires.now))
 
 pub returns-in-Traffic-clause-ends : goal.returns-in-Traffic-clause-ends
 returns-in-Traffic-clause-ends g c = rw c.in_ok-scene.ensures.reading (c.write_scene_traffic.ensures.ends (g.W.Wires.log c.args.wires.now))

@@ -1,4 +1,4 @@
-use Rattle.std.proofs.Common.{◌++◌, sym, subst, ap, ◌∙◌, map}
+use Rattle.std.proofs.Common.{◌≡◌, ◌++◌, length, arith, sym, subst, ap, ◌∙◌, map}
 use Rattle.icet_scene_model.specs.Scene.{SceneView}
 use Rattle.icet_model.specs.Traffic.{traffic}
 use Rattle.icet_net.specs.Net.{pairs_of}
@@ -6,10 +6,30 @@ use Rattle.icet_net.specs.Opening.{CanOpen, sides_of}
 use Rattle.icet_net.specs.Closing.{pictures_of}
 use Rattle.icet_jobs.specs.Nets.{piece_images}
 use Rattle.icet_jobs.specs.Composites.{rank_images}
+use Rattle.icet_jobs.specs.Weights.{images_weight}
+use Rattle.icet_jobs.proofs.Weighed.{image_count, images_long}
 use Rattle.icet_jobs.proofs.SceneNets.{can_open, ordered, strategy_tiles}
 use Rattle.icet_jobs.proofs.ScenePictures.{shown}
 use Rattle.icet_jobs.proofs.SceneTraffic.{carried}
 use Rattle.icet_jobs.proofs.compositing.composite.Goals as goal
+
+pub weigh-weight-requires-clause-ranks : goal.weigh-weight-requires-clause-ranks
+weigh-weight-requires-clause-ranks g c =
+    let count = ap length (c.as_slice.ensures.value ∙ c.in_ok-images.ensures) ∙ image_count c.args.scene.now in
+    omega (arith, count, c.ranks-ranks.ensures.lawful.few)
+
+pub weigh-weight-requires-clause-each : goal.weigh-weight-requires-clause-each
+weigh-weight-requires-clause-each g c =
+    let tiles = c.count-tiles.ensures.count ∙ ap (λ (v : SceneView). length v.tiles) c.scene.view_is in
+    images_long c.args.scene.now c.as_slice.result.now c.count-tiles.result (c.as_slice.ensures.value ∙ c.in_ok-images.ensures) tiles
+
+pub run_net-requires-clause-ranks : goal.run_net-requires-clause-ranks
+run_net-requires-clause-ranks g c =
+    let count = ap length c.in_ok-images.ensures ∙ image_count c.args.scene.now in
+    omega (arith, count, c.ranks-ranks.ensures.lawful.some)
+
+pub returns-clause-weight : goal.returns-clause-weight
+returns-clause-weight g c = c.weigh-weight.ensures ∙ ap images_weight (c.as_slice.ensures.value ∙ c.in_ok-images.ensures)
 
 pub run_net-requires-clause-fits : goal.run_net-requires-clause-fits
 run_net-requires-clause-fits g c =
