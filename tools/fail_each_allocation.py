@@ -1,5 +1,5 @@
 #!/usr/bin/env python3
-"""Runs the built program on a small scene with each of its allocations refused in turn.
+"""Runs the built program on small scenes with each of its allocations refused in turn.
 
 A small library, put before the C library, lets the Nth allocation fail. Each run has to end in one of two
 ways: with status 5, nothing written and the line of wanting memory, or with status 0 and the right bytes.
@@ -12,18 +12,34 @@ import tempfile
 
 HERE = os.path.dirname(os.path.dirname(os.path.abspath(__file__)))
 PROGRAM = os.path.join(HERE, "crates", "icet", "out", "icet")
-SCENE = b"""icet-scene 1
+HEADER = b"P7\nWIDTH %d\nHEIGHT %d\nDEPTH 4\nMAXVAL 255\nTUPLTYPE RGB_ALPHA\nENDHDR\n"
+SHARED_EDGE = b"""icet-scene 1
 mode depth
 ranks 2
-tile 0 0 1 1 0
-point 1 0 0 7 2 2 2 255
-point 0 0 0 7 1 1 1 255
+tile 0 0 2 2 0
+tri 0 0 0 5 10 20 30 255 32 0 5 10 20 30 255 0 32 5 10 20 30 255
+tri 1 32 0 5 40 50 60 255 32 32 5 40 50 60 255 0 32 5 40 50 60 255
 end
 """
-HEADER = b"P7\nWIDTH 1\nHEIGHT 1\nDEPTH 4\nMAXVAL 255\nTUPLTYPE RGB_ALPHA\nENDHDR\n"
+FOUR_BLENDED = b"""icet-scene 1
+mode blend
+ranks 4
+order 0 1 2 3
+tile 0 0 1 1 0
+point 1 0 0 0 0 0 0 128
+point 2 0 0 0 1 0 0 128
+point 3 0 0 0 100 0 0 255
+end
+"""
+FIVE_RANKS = b"icet-scene 1\nmode depth\nranks 5\ntile 0 0 7 1 0\nend\n"
+SEQUENTIAL = ["composite", "--strategy", "sequential", "--single"]
+QUIET = 100  # how many later allocations have to do no harm before the run is taken to have no more
+# Words, a scene, and what has to be written with ample memory.
 RUNS = [
-    (["composite", "--strategy", "direct"], HEADER + bytes([1, 1, 1, 255])),
-    (["replay", "--strategy", "direct", "--cap", "1", "--schedule", "0,1,0"], b"0 stalled\n1 moved\n0 moved\nfinished\n"),
+    (["composite"], SHARED_EDGE, HEADER % (2, 2) + bytes([10, 20, 30, 255] + 3 * [40, 50, 60, 255])),
+    (SEQUENTIAL + ["tree"], FOUR_BLENDED, HEADER % (1, 1) + bytes([0x18, 0, 0, 0xFF])),
+    (SEQUENTIAL + ["bswap"], FIVE_RANKS, HEADER % (7, 1) + bytes(28)),
+    (["replay", "--strategy=direct", "--cap=1", "--schedule=0,1,0"], SHARED_EDGE, b"0 stalled\n1 moved\n0 moved\nfinished\n"),
 ]
 FAILING = r"""
 #define _GNU_SOURCE
@@ -66,15 +82,16 @@ def main():
         sys.exit("build the program first: ./icet composite --strategy direct < examples/one-point.scene")
     with tempfile.TemporaryDirectory() as folder:
         library = compiled(folder)
-        for words, right in RUNS:
-            wanting, refused = 0, 1
+        for words, scene, right in RUNS:
+            wanting, last, refused = 0, 0, 1
             while True:
                 environment = dict(os.environ, LD_PRELOAD=library, REFUSED=str(refused))
-                ran = subprocess.run([PROGRAM, *words], input=SCENE, capture_output=True, env=environment)
+                ran = subprocess.run([PROGRAM, *words], input=scene, capture_output=True, env=environment)
                 if not ends_well(ran, right):
                     sys.exit(f"{words}: allocation {refused} refused: status {ran.returncode}, {ran.stdout!r}, {ran.stderr!r}")
-                wanting += ran.returncode == 5
-                if ran.returncode == 0 and refused > 300:
+                if ran.returncode == 5:
+                    wanting, last = wanting + 1, refused
+                elif refused > last + QUIET:
                     break
                 refused += 1
             print(f"{' '.join(words)}: {wanting} allocations were refused in turn, each with status 5 and nothing written")
