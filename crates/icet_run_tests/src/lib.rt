@@ -3,6 +3,10 @@
 #![tactic(auto)]
 
 #[cfg(test)]
+mod closing;
+#[cfg(test)]
+mod opening;
+#[cfg(test)]
 mod runs;
 #[cfg(test)]
 mod scenes;

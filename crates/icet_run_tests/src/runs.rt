@@ -42,7 +42,7 @@ const TIE: &[u8] =
     b"P7\nWIDTH 1\nHEIGHT 1\nDEPTH 4\nMAXVAL 255\nTUPLTYPE RGB_ALPHA\nENDHDR\n\x01\x01\x01\xff";
 
 /// Nobody draws.
-const NOTHING: &str = "icet-scene 1\nmode depth\nranks 3\ntile 5 5 2 1 2\nend\n";
+pub(crate) const NOTHING: &str = "icet-scene 1\nmode depth\nranks 3\ntile 5 5 2 1 2\nend\n";
 
 /// Two by one pixels, where nothing was drawn.
 const BLANK: &[u8] =
@@ -279,53 +279,69 @@ pub(crate) const FIVE_RANKS: &str = "icet-scene 1\nmode depth\nranks 5\ntile 0 0
 /// Three ranks that draw nothing; the display swaps with nobody.
 const OUTSIDE: &str = "icet-scene 1\nmode depth\nranks 3\ntile 0 0 4 1 1\nend\n";
 
+/// Two of three ranks draw into each tile, and the display of each is the one that doesn't.
+const CROSSED: &str =
+    "icet-scene 1\nmode depth\nranks 3\ntile 0 0 1 1 1\ntile 1 0 1 1 0\npoint 0 0 0 1 9 9 9 255\npoint 2 0 0 1 9 9 9 255\npoint 1 1 0 1 9 9 9 255\npoint 2 1 0 1 9 9 9 255\nend\n";
+
 const SWAPS: &[u8] =
     b"0 2 1 0 3 7\n0 3 2 0 1 3\n1 0 0 0 0 7\n2 0 1 0 0 3\n2 0 3 0 3 5\n2 4 2 0 5 7\n3 0 2 0 0 1\n3 0 3 0 1 3\n3 4 1 0 3 7\n4 0 3 0 5 7\n4 2 2 0 3 5\n4 3 1 0 0 3\n";
+
+/// Words, a scene, and what is told of its plan.
+const PLAN_TEXTS: &[(&[&str], &str, &[u8])] = &[
+    (
+        &["--strategy", "sequential", "traffic", "--single", "tree"],
+        NOTHING,
+        b"0 2 2 0 0 2\n1 0 0 0 0 2\n2 0 1 0 0 2\n",
+    ),
+    (
+        &[
+            "--strategy=sequential",
+            "--single=bswap",
+            "traffic",
+            "--k=2",
+        ],
+        FIVE_RANKS,
+        SWAPS,
+    ),
+    (
+        &[
+            "--strategy=sequential",
+            "--single=bswap",
+            "traffic",
+            "--seed=0",
+        ],
+        OUTSIDE,
+        b"0 1 2 0 0 2\n0 2 1 0 2 4\n1 0 0 0 0 4\n2 0 1 0 0 2\n2 1 2 0 2 4\n",
+    ),
+    (
+        &["--strategy", "direct", "plan", "--burst", "1"],
+        TWO_RANKS,
+        b"tile 0 (0 1)\nrank 0 take 0 1 0 0 1\nrank 1 send 0 0 0 0 1\n",
+    ),
+    (
+        &["--strategy=reduce", "--single=tree", "traffic"],
+        UNEVEN,
+        b"1 2 0 0 0 4\n2 0 1 0 0 4\n2 3 0 0 0 4\n3 0 2 0 0 4\n3 1 0 1 0 4\n",
+    ),
+    (
+        &["traffic", "--single=tree"],
+        CROSSED,
+        b"0 1 0 0 0 1\n1 0 0 1 0 1\n2 0 0 1 0 1\n2 1 1 0 0 1\n",
+    ),
+    (
+        &["--strategy", "direct", "plan", "--burst", "1"],
+        NOTHING,
+        b"tile 0 -\n",
+    ),
+    (&["--strategy", "direct", "traffic"], NOTHING, b""),
+];
 
 // Options and the job stand in any order, with a space or a sign between name and value.
 #[test]
 fn a_plan_is_told_as_its_words_ask(rt: HostRuntime) {
-    let tree = ["--strategy", "sequential", "--single", "tree"];
-    let swap = [
-        "--strategy=sequential",
-        "--single=bswap",
-        "--k=2",
-        "--seed=0",
-    ];
-    let direct = ["--strategy", "direct", "--burst", "1"];
-    let reduce = ["--strategy=reduce", "--single=tree", "--k=2", "--seed=0"];
-    for (options, job, scene, written) in [
-        (
-            tree,
-            "traffic",
-            NOTHING,
-            b"0 2 2 0 0 2\n1 0 0 0 0 2\n2 0 1 0 0 2\n".as_slice(),
-        ),
-        (swap, "traffic", FIVE_RANKS, SWAPS),
-        (
-            swap,
-            "traffic",
-            OUTSIDE,
-            b"0 1 2 0 0 2\n0 2 1 0 2 4\n1 0 0 0 0 4\n2 0 1 0 0 2\n2 1 2 0 2 4\n",
-        ),
-        (
-            direct,
-            "plan",
-            TWO_RANKS,
-            b"tile 0 (0 1)\nrank 0 take 0 1 0 0 1\nrank 1 send 0 0 0 0 1\n",
-        ),
-        (
-            reduce,
-            "traffic",
-            UNEVEN,
-            b"1 2 0 0 0 4\n2 0 1 0 0 4\n2 3 0 0 0 4\n3 0 2 0 0 4\n3 1 0 1 0 4\n",
-        ),
-        (direct, "plan", NOTHING, b"tile 0 -\n"),
-        (direct, "traffic", NOTHING, b""),
-    ] {
-        let words = [options[0], options[1], job, options[2], options[3]];
-        let came = came_of_scene(&rt, rt.alloc(), &words, scene);
-        assert_came(&rt, &came, done(written), job);
+    for (words, scene, written) in PLAN_TEXTS {
+        let came = came_of_scene(&rt, rt.alloc(), words, scene);
+        assert_came(&rt, &came, done(written), "plan");
     }
 }
 
@@ -373,37 +389,61 @@ fn each_kind_of_wires_carries_the_same_pictures(rt: HostRuntime) {
     }
 }
 
+/// Words of each strategy and single strategy, with other settings too.
+const SAME_PICTURES: &[&[&str]] = &[
+    &["composite", "--strategy", "direct", "--cap", "1"],
+    &["composite", "--strategy", "sequential", "--workers", "3"],
+    &[
+        "composite",
+        "--strategy=sequential",
+        "--single=tree",
+        "--burst",
+        "1",
+    ],
+    &[
+        "composite",
+        "--strategy=sequential",
+        "--single=bswap",
+        "--cap",
+        "64",
+    ],
+    &[
+        "composite",
+        "--strategy=sequential",
+        "--single=radixk",
+        "--k",
+        "2",
+    ],
+    &[
+        "composite",
+        "--strategy=reduce",
+        "--single=tree",
+        "--cap",
+        "1",
+    ],
+    &[
+        "composite",
+        "--strategy=reduce",
+        "--single=bswap",
+        "--burst",
+        "1",
+    ],
+    &[
+        "composite",
+        "--strategy=reduce",
+        "--single=radixk",
+        "--k",
+        "8",
+    ],
+];
+
 // By depth each strategy shows the nearest fragment, and of equal ones that of the lowest rank.
 #[test]
 fn each_strategy_writes_the_same_picture(rt: HostRuntime) {
-    for words in [
-        ["composite", "--strategy", "direct", "--cap", "1"],
-        ["composite", "--strategy", "sequential", "--workers", "3"],
-        [
-            "composite",
-            "--strategy=sequential",
-            "--single=tree",
-            "--burst",
-            "1",
-        ],
-        [
-            "composite",
-            "--strategy=sequential",
-            "--single=bswap",
-            "--cap",
-            "64",
-        ],
-        [
-            "composite",
-            "--strategy=sequential",
-            "--single=radixk",
-            "--k",
-            "2",
-        ],
-    ] {
+    for words in SAME_PICTURES {
         for (scene, picture) in [(TWO_RANKS, TIE), (THREE_RANKS, OF_EACH), (POINT, PICTURE)] {
-            let came = came_of_scene(&rt, rt.alloc(), &words, scene);
-            assert_came(&rt, &came, done(picture), words[1]);
+            let came = came_of_scene(&rt, rt.alloc(), words, scene);
+            assert_came(&rt, &came, done(picture), "each strategy");
         }
     }
 }

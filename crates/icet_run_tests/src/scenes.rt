@@ -39,44 +39,52 @@ const REDUCE: &[&str] = &["composite", "--single=tree"];
 
 const SWAP: &[&str] = &["composite", "--strategy=sequential", "--single=bswap"];
 
+/// Words, a scene, and its pictures.
+const COMPOSITES: &[(&[&str], &str, &[u8])] = &[
+    (DIRECT, SHARED_EDGE, EDGE_PICTURE),
+    (TREE, SHARED_EDGE, EDGE_PICTURE),
+    (SWAP, SHARED_EDGE, EDGE_PICTURE),
+    (SWAP, READY_DRAWN, EDGE_PICTURE),
+    (
+        DIRECT,
+        REDS,
+        b"P7\nWIDTH 1\nHEIGHT 1\nDEPTH 4\nMAXVAL 255\nTUPLTYPE RGB_ALPHA\nENDHDR\n\x19\x00\x00\xff",
+    ),
+    (
+        TREE,
+        REDS,
+        b"P7\nWIDTH 1\nHEIGHT 1\nDEPTH 4\nMAXVAL 255\nTUPLTYPE RGB_ALPHA\nENDHDR\n\x18\x00\x00\xff",
+    ),
+    (
+        REDUCE,
+        REDS,
+        b"P7\nWIDTH 1\nHEIGHT 1\nDEPTH 4\nMAXVAL 255\nTUPLTYPE RGB_ALPHA\nENDHDR\n\x19\x00\x00\xff",
+    ),
+    (
+        &["composite"],
+        REDS,
+        b"P7\nWIDTH 1\nHEIGHT 1\nDEPTH 4\nMAXVAL 255\nTUPLTYPE RGB_ALPHA\nENDHDR\n\x19\x00\x00\xff",
+    ),
+    (REDUCE, WALL, WALL_PICTURES),
+    (
+        DIRECT,
+        DEEP_REDS,
+        b"P7\nWIDTH 1\nHEIGHT 1\nDEPTH 4\nMAXVAL 65535\nTUPLTYPE RGB_ALPHA\nENDHDR\n\x00\x31\x00\x00\x00\x00\xff\xff",
+    ),
+    (DIRECT, WALL, WALL_PICTURES),
+    (TREE, WALL, WALL_PICTURES),
+    (SWAP, WALL, WALL_PICTURES),
+    (
+        TREE,
+        "icet-scene 1\nmode depth\nranks 3\nbackground 1 2 3 4\ntile 0 0 2 1 2\nend\n",
+        b"P7\nWIDTH 2\nHEIGHT 1\nDEPTH 4\nMAXVAL 255\nTUPLTYPE RGB_ALPHA\nENDHDR\n\x01\x02\x03\x04\x01\x02\x03\x04",
+    ),
+];
+
 // By blending the joins show in the picture, since each is rounded down.
 #[test]
 fn each_mode_shows_its_composite(rt: HostRuntime) {
-    for (words, scene, picture) in [
-        (DIRECT, SHARED_EDGE, EDGE_PICTURE),
-        (TREE, SHARED_EDGE, EDGE_PICTURE),
-        (SWAP, SHARED_EDGE, EDGE_PICTURE),
-        (SWAP, READY_DRAWN, EDGE_PICTURE),
-        (
-            DIRECT,
-            REDS,
-            b"P7\nWIDTH 1\nHEIGHT 1\nDEPTH 4\nMAXVAL 255\nTUPLTYPE RGB_ALPHA\nENDHDR\n\x19\x00\x00\xff".as_slice(),
-        ),
-        (
-            TREE,
-            REDS,
-            b"P7\nWIDTH 1\nHEIGHT 1\nDEPTH 4\nMAXVAL 255\nTUPLTYPE RGB_ALPHA\nENDHDR\n\x18\x00\x00\xff",
-        ),
-        (
-            REDUCE,
-            REDS,
-            b"P7\nWIDTH 1\nHEIGHT 1\nDEPTH 4\nMAXVAL 255\nTUPLTYPE RGB_ALPHA\nENDHDR\n\x19\x00\x00\xff",
-        ),
-        (REDUCE, WALL, WALL_PICTURES),
-        (
-            DIRECT,
-            DEEP_REDS,
-            b"P7\nWIDTH 1\nHEIGHT 1\nDEPTH 4\nMAXVAL 65535\nTUPLTYPE RGB_ALPHA\nENDHDR\n\x00\x31\x00\x00\x00\x00\xff\xff",
-        ),
-        (DIRECT, WALL, WALL_PICTURES),
-        (TREE, WALL, WALL_PICTURES),
-        (SWAP, WALL, WALL_PICTURES),
-        (
-            TREE,
-            "icet-scene 1\nmode depth\nranks 3\nbackground 1 2 3 4\ntile 0 0 2 1 2\nend\n",
-            b"P7\nWIDTH 2\nHEIGHT 1\nDEPTH 4\nMAXVAL 255\nTUPLTYPE RGB_ALPHA\nENDHDR\n\x01\x02\x03\x04\x01\x02\x03\x04",
-        ),
-    ] {
+    for (words, scene, picture) in COMPOSITES {
         let came = came_of_scene(&rt, rt.alloc(), words, scene);
         assert_came(&rt, &came, done(picture), scene);
     }
