@@ -15,6 +15,12 @@ TEXT = (HERE / "docs" / "FORMATS.md").read_text()
 POINT = "icet-scene 1\nmode depth\nranks 1\ntile 0 0 1 1 0\npoint 0 0 0 7 10 20 30 255\nend\n"
 TWO = "icet-scene 1\nmode depth\nranks 2\ntile 0 0 1 1 0\npoint 1 0 0 7 2 2 2 255\npoint 0 0 0 7 1 1 1 255\nend\n"
 
+EDGE = (
+    "icet-scene 1\nmode depth\nranks 2\ntile 0 0 2 2 0\n"
+    "tri 0 0 0 5 10 20 30 255 32 0 5 10 20 30 255 0 32 5 10 20 30 255\n"
+    "tri 1 32 0 5 40 50 60 255 32 32 5 40 50 60 255 0 32 5 40 50 60 255\nend\n"
+)
+
 # A scene with each example of a line, by its keyword.
 SCENES = {
     "icet-scene": "{line}\nmode depth\nranks 1\ntile 0 0 1 1 0\nend\n",
@@ -93,5 +99,12 @@ expect("the plan", run(["plan", "--strategy", "direct"], TWO), (0, block("Of two
 expect("the summary", run(["summary"], TWO), (0, block("pixel of a tile weigh 32").encode(), ""))
 picture = block("The Netpbm format PAM").replace("w\n", "1\n", 1).replace("h\n", "1\n", 1).replace(" m\n", " 255\n", 1)
 expect("the picture", run(["composite"], POINT), (0, picture.encode() + bytes([10, 20, 30, 255]), ""))
+expect("the upgraded text", run(["upgrade"], EDGE), (0, block("one half of a tile of four pixels").encode(), ""))
+
+demonstration = subprocess.run([HERE / "tools" / "make_demo.py"], capture_output=True, text=True, check=True).stdout
+for words in ([], ["--strands", "16", "--workers", "4"], ["--strategy", "direct", "--cap", "1"]):
+    made, read = run(["demo", *words], ""), run(["summary", *words], demonstration)
+    expect(f"the summary of the demonstration's text, {' '.join(words)}", read, made)
+expect("the size of the demonstration's picture", len(run(["composite"], demonstration)[1]), 71 + 4 * 1920 * 1080)
 
 sys.exit(f"{wrong} differ" if wrong else None)

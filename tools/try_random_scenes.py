@@ -201,7 +201,7 @@ def printed_brackets(settings, text):
 
 
 def settings(dice, strategy):
-    numbers = {"--k": (2, 64), "--cap": (1, 64), "--workers": (1, 4), "--burst": (1, 20)}
+    numbers = {"--k": (2, 64), "--cap": (1, 64), "--workers": (1, 4), "--burst": (1, 20), "--strands": (1, 64)}
     words = list(strategy)
     for name, (least, most) in numbers.items():
         if dice.random() < 0.3:

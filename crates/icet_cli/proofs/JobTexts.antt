@@ -8,6 +8,8 @@ use Rattle.icet_model.specs.Replay.{replay_from, replay_text}
 use Rattle.icet_model.specs.Streams.{SinkView, WritesAll}
 use Rattle.icet_model.specs.Traffic.{PairTraffic}
 use Rattle.icet_scene_model.specs.Jobs.{composite_text}
+use Rattle.icet_scene_model.specs.Printed.{upgraded}
+use Rattle.icet_scene_model.specs.Ready.{ready_scene}
 use Rattle.icet_scene_model.specs.Scene.{SceneView}
 use Rattle.icet_scene_model.specs.Texts.{SceneText, Text}
 use Rattle.icet_scene_model.specs.declared.fault.SceneFault.{SceneFault}
@@ -15,7 +17,7 @@ use Rattle.icet_scene_model.specs.declared.fault.SceneFault.TheVariants.{TooLong
 use Rattle.icet_scene.specs.Readings.{IsFaultOfText}
 use Rattle.icet_words.specs.CommandLine.{Command}
 use Rattle.icet_words.specs.declared.job.Job.{Job}
-use Rattle.icet_words.specs.declared.job.Job.TheVariants.{Composite, Traffic, Plan, Replay, Summary, Demo}
+use Rattle.icet_words.specs.declared.job.Job.TheVariants.{Composite, Traffic, Plan, Replay, Summary, Demo, Upgrade}
 use Rattle.icet_base.specs.declared.faults.WriteFault.{WriteFault}
 use Rattle.icet_plan_text.specs.PlanTexts.{plan_text, traffic_text}
 use Rattle.icet_jobs.specs.Composites.{IsPlanFor, brackets_of, composite_traffic}
@@ -48,16 +50,19 @@ module _ (command : Command) (scene : SceneView) where
   pub composite_is : command.job ≡ Composite → composite_text scene (brackets_of command.settings scene) ≡ job_text command scene
   composite_is job = job_is Composite job
 
-  pub composite_carries : command.job ≡ Composite → composite_traffic command.settings scene ≡ job_traffic command scene
+  pub composite_carries : command.job ≡ Composite → composite_traffic command.settings command.strands scene ≡ job_traffic command scene
   composite_carries job = sym (ap (λ j. traffic_for j command scene) job)
 
   pub summary_is : SumsUp command.job → summary_for command scene ≡ job_text command scene
   summary_is (inl job) = job_is Summary job
   summary_is (inr job) = job_is Demo job
 
-  pub summary_carries : SumsUp command.job → composite_traffic command.settings scene ≡ job_traffic command scene
+  pub summary_carries : SumsUp command.job → composite_traffic command.settings command.strands scene ≡ job_traffic command scene
   summary_carries (inl job) = sym (ap (λ j. traffic_for j command scene) job)
   summary_carries (inr job) = sym (ap (λ j. traffic_for j command scene) job)
+
+  pub upgrade_is : command.job ≡ Upgrade → upgraded (ready_scene scene) ≡ job_text command scene
+  upgrade_is job = job_is Upgrade job
 
   module _ {K : Type 0} (told : K → SinkView) (old new : K) (log : List (PairTraffic (List Pixel))) (job : Job) (is_job : command.job ≡ job) (none : traffic_for job command scene ≡ []) where
     pub job_written : WritesAll {E = WriteFault} (told old) (told new) (Ok tt) (job_text command scene) → EndsWith command (SceneText scene) (shown (told old) log) (shown (told new) log) (Ok tt)

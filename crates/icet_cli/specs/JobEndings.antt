@@ -49,7 +49,8 @@ pub record IsWayOf (command : Command) (way : Way) : Type 0 where
   pub cap : 1 ≤ way.cap
   pub workers : 1 ≤ way.workers
   pub burst : 1 ≤ way.burst
-  pub strands : way.strands ≡ 1
+  pub strands_are : way.strands ≡ command.strands
+  pub strands : 1 ≤ way.strands
 
 -- a job over a scene that has been read: it leaves the wires' log, whatever that is
 abbrev pub SceneJobEnds : Command → SceneView → SinkView → SinkView → Result (Unit {0}) RunFault → Type 0

@@ -10,12 +10,14 @@ use Rattle.icet_model.specs.Streams.{SourceView, SinkView, WritesAll}
 use Rattle.icet_model.specs.Traffic.{PairTraffic}
 use Rattle.icet_scene_model.specs.FaultLines.{words_line, read_line, write_line, memory_line, scene_line}
 use Rattle.icet_scene_model.specs.Jobs.{composite_text}
+use Rattle.icet_scene_model.specs.Printed.{upgraded}
+use Rattle.icet_scene_model.specs.Ready.{ready_scene}
 use Rattle.icet_scene_model.specs.Scene.{SceneView}
 use Rattle.icet_scene_model.specs.Texts.{SceneText, Refused, text_is}
 use Rattle.icet_scene_model.specs.declared.fault.SceneFault.{SceneFault}
 use Rattle.icet_words.specs.CommandLine.{Command, reading}
 use Rattle.icet_words.specs.declared.job.Job.{Job}
-use Rattle.icet_words.specs.declared.job.Job.TheVariants.{Composite, Traffic, Plan, Replay, Summary, Demo}
+use Rattle.icet_words.specs.declared.job.Job.TheVariants.{Composite, Traffic, Plan, Replay, Summary, Demo, Upgrade}
 use Rattle.icet_base.specs.declared.faults.WriteFault.{WriteFault}
 use Rattle.icet_plan_text.specs.PlanTexts.{plan_text, traffic_text}
 use Rattle.icet_demo.specs.Demonstration.{demo_scene}
@@ -43,7 +45,7 @@ texts words = map (λ word. word.now) words
 
 -- the summary of what the ranks of a scene draw
 abbrev pub summary_for : Command → SceneView → List ℕ
-summary_for command scene = summary_of scene (plain_pictures command.settings scene) (scene_weight scene)
+summary_for command scene = summary_of scene (plain_pictures command.settings scene) (scene_weight command.strands scene)
 
 abbrev pub text_for : Job → Command → SceneView → List ℕ
 text_for Composite command scene = composite_text scene (brackets_of command.settings scene)
@@ -52,19 +54,21 @@ text_for Plan command scene = plan_text (brackets_of command.settings scene) (ex
 text_for Replay command scene = replay_from (exchanges_of command.settings scene) command.cap (start (exchanges_of command.settings scene)) command.schedule
 text_for Summary command scene = summary_for command scene
 text_for Demo command scene = summary_for command scene
+text_for Upgrade command scene = upgraded (ready_scene scene)
 
--- what a command writes for a scene: the pictures of the plain composite, the plan's messages, the plan, its replay, or the
--- summary of the pictures
+-- what a command writes for a scene: the pictures of the plain composite, the plan's messages, the plan, its replay, the
+-- summary of the pictures, or the scene's text with its shapes ready drawn
 abbrev pub job_text : Command → SceneView → List ℕ
 job_text command scene = text_for command.job command scene
 
 abbrev pub traffic_for : Job → Command → SceneView → List (PairTraffic (List Pixel))
-traffic_for Composite command scene = composite_traffic command.settings scene
+traffic_for Composite command scene = composite_traffic command.settings command.strands scene
 traffic_for Traffic command scene = []
 traffic_for Plan command scene = []
 traffic_for Replay command scene = []
-traffic_for Summary command scene = composite_traffic command.settings scene
-traffic_for Demo command scene = composite_traffic command.settings scene
+traffic_for Summary command scene = composite_traffic command.settings command.strands scene
+traffic_for Demo command scene = composite_traffic command.settings command.strands scene
+traffic_for Upgrade command scene = []
 
 -- what the wires carry for a command: the plan's messages with their pixels where pictures are made, and else nothing
 abbrev pub job_traffic : Command → SceneView → List (PairTraffic (List Pixel))

@@ -1,7 +1,7 @@
 ghost use Rattle.std.specs.Prelude.{◌≡◌, ◌≢◌};
 ghost use Rattle.icet_demo.specs.Demonstration.{demo_scene};
 ghost use Rattle.icet_scene_model.specs.Texts.{SceneText, text_is};
-ghost use Rattle.icet_words.specs.declared.job.Job.TheVariants.{Composite, Traffic, Plan, Replay, Demo};
+ghost use Rattle.icet_words.specs.declared.job.Job.TheVariants.{Composite, Traffic, Plan, Replay, Demo, Upgrade};
 ghost use Rattle.icet_cli.specs.FaultNotes.{status_for};
 ghost use Rattle.icet_cli.specs.JobEndings.{EndsWith, IsWayOf, SceneJobEnds, SumsUp, shown};
 ghost use Rattle.icet_cli.specs.Untouched.{LeavesOwed, LeavesSink, LeavesWires};
@@ -14,6 +14,8 @@ use icet_plan_text::{write_plan, write_traffic};
 use icet_ring::Wires;
 use icet_scene::read::read;
 use icet_scene::scene::Scene;
+use icet_scene_text::write_upgrade;
+use icet_upgrade::ready_drawn;
 use icet_words::{Command, Job};
 use std::alloc::Global;
 use std::thread::Threads;
@@ -42,6 +44,7 @@ pub fn do_text<K: Sink, W: Wires, G: Gate, R: Threads + Sync>(
         Job::Plan => write_scene_plan(alloc, command, &scene, sink),
         Job::Replay => replay_scene(alloc, command, &scene, sink),
         Job::Summary => summarize_scene(rt, alloc, command, &scene, sink, wires, gate),
+        Job::Upgrade => upgrade_scene(alloc, command, &scene, sink),
         Job::Demo => unreachable!(),
     }
 }
@@ -152,6 +155,22 @@ fn write_scene_plan<K: Sink>(
 {
     let plan = plan_of(alloc, scene, &command.settings())?;
     write_plan(sink, &plan)?;
+    Ok(())
+}
+
+/// Writes a scene's text with its shapes ready drawn.
+fn upgrade_scene<K: Sink>(
+    alloc: Global,
+    command: &Command,
+    scene: &Scene,
+    sink: &mut K,
+) -> Result<(), RunFault>
+    requires { command.now.job ≡ Upgrade }
+    ensures ends { SceneJobEnds command.now scene.now (K.told sink.old) (K.told sink.new) result }
+    ensures sink { LeavesSink (status_for result) sink.old sink.new }
+{
+    let ready = ready_drawn(alloc, scene)?;
+    write_upgrade(sink, &ready)?;
     Ok(())
 }
 

@@ -101,6 +101,7 @@ fn makes_scene(job: Job) -> bool
 {
     match job {
         Job::Demo => true,
-        Job::Composite | Job::Traffic | Job::Plan | Job::Replay | Job::Summary => false,
+        Job::Composite | Job::Traffic | Job::Plan | Job::Replay | Job::Summary | Job::Upgrade =>
+            false,
     }
 }

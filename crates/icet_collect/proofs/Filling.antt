@@ -8,7 +8,10 @@ use Rattle.std.proofs.lemmas.List.FromFn.{get_or-map-range_with_len, length-map-
 use Rattle.icet_model.specs.Pixel.{Pixel}
 use Rattle.icet_model.specs.Run.{Piece}
 use Rattle.icet_model.specs.Plan.{has_place}
-use Rattle.icet_collect.specs.Collect.{CanvasView, blank_canvas, IsFree, IsFull, Places, Shows, HasWanted}
+use Rattle.icet_interlace.specs.Interlace.{place, restored}
+use Rattle.icet_interlace.proofs.Places.{place_within}
+use Rattle.icet_interlace.proofs.Strands.{restored_of}
+use Rattle.icet_collect.specs.Collect.{CanvasView, blank_canvas, position_of, IsFree, IsFull, Places, Shows, HasWanted}
 use Rattle.icet_model.proofs.Lists.{any_last}
 use Rattle.icet_collect.proofs.Positions.{in_range}
 
@@ -18,19 +21,31 @@ blank_place n i = ⊎_elim (λ (h : i < n). get_or-replicate n i false false h) 
 pub shows_blank : (wanted : ℕ → Pixel) (tile w h strands : ℕ) → Shows wanted (blank_canvas tile w h strands) []
 shows_blank wanted tile w h strands = record {
   placed = λ i. blank_place (w * h) i;
-  pixels = λ i e. absurd (both_ways (get_or (replicate (w * h) false) i false) (blank_place (w * h) i) e);
+  pixels = λ i l e. absurd (both_ways (get_or (replicate (w * h) false) (place i (w * h) strands) false) (blank_place (w * h) (place i (w * h) strands)) e);
 }
 
-wanted_at : (wanted : ℕ → Pixel) (c : CanvasView) (ps : List (Piece (List Pixel))) (p : Piece (List Pixel)) → Shows wanted c ps → HasWanted wanted p → (i : ℕ) (b : Bool) → has_place c.tile i p ≡ b → (b || get_or c.placed i false) ≡ true → cond b (get_or p.content (i - p.lo) None) (get_or c.pixels i None) ≡ wanted i
-wanted_at wanted c ps p shows has i true q e = let r = in_range c.tile i p q in has i r.0 r.1
-wanted_at wanted c ps p shows has i false q e = shows.pixels i e
+-- the pixel with position j, once one more piece is placed
+wanted_at : (wanted : ℕ → Pixel) (t : ℕ) (p : Piece (List Pixel)) (j : ℕ) (old : Pixel) (placed : Bool) → HasWanted wanted p → (placed ≡ true → old ≡ wanted j) → (b : Bool) → has_place t j p ≡ b → (b || placed) ≡ true → cond b (get_or p.content (j - p.lo) None) old ≡ wanted j
+wanted_at wanted t p j old placed has before true q e = let r = in_range t j p q in has j r.0 r.1
+wanted_at wanted t p j old placed has before false q e = before e
 
--- one more piece is placed
-pub shows_more : (wanted : ℕ → Pixel) (c d : CanvasView) (ps : List (Piece (List Pixel))) (p : Piece (List Pixel)) → Shows wanted c ps → Places c d p → HasWanted wanted p → Shows wanted d (ps ++ p ∷ [])
-shows_more wanted c d ps p shows places has = record {
-  placed = λ i. places.placed i ∙ ap (λ b. has_place c.tile i p || b) (shows.placed i) ∙ sym (any_last (has_place c.tile i) ps p) ∙ ap (λ t. list_any (has_place t i) (ps ++ p ∷ [])) (sym places.tile);
-  pixels = λ i e. places.pixels i ∙ wanted_at wanted c ps p shows has i (has_place c.tile i p) refl (sym (places.placed i) ∙ e);
-}
+module _ (wanted : ℕ → Pixel) (c d : CanvasView) (ps : List (Piece (List Pixel))) (p : Piece (List Pixel)) (shows : Shows wanted c ps) (places : Places c d p) (has : HasWanted wanted p) where
+  same_size : d.w * d.h ≡ c.w * c.h
+  same_size = λ j. places.w j * places.h j
+
+  same_position : (i : ℕ) → position_of d i ≡ position_of c i
+  same_position i = λ j. place i (same_size j) (places.strands j)
+
+  -- one more piece is placed
+  pub shows_more : Shows wanted d (ps ++ p ∷ [])
+  shows_more = record {
+    placed = λ i. places.placed i ∙ ap (λ b. has_place c.tile i p || b) (shows.placed i) ∙ sym (any_last (has_place c.tile i) ps p) ∙ ap (λ t. list_any (has_place t i) (ps ++ p ∷ [])) (sym places.tile);
+    pixels = λ i l e.
+        let low : i < c.w * c.h = omega (arith, l, same_size) in
+        places.pixels i low
+        ∙ wanted_at wanted c.tile p (position_of c i) (get_or c.pixels i None) (get_or c.placed (position_of c i) false) has (shows.pixels i low) (has_place c.tile (position_of c i) p) refl (sym (places.placed (position_of c i)) ∙ ap (λ q. get_or d.placed q false) (sym (same_position i)) ∙ e)
+        ∙ ap wanted (sym (same_position i));
+  }
 
 module _ (test : Piece (List Pixel) → Bool) where
   none_step : (b any : Bool) (p : Piece (List Pixel)) (found : List (Piece (List Pixel))) → length (cond b (p ∷ found) found) ≡ 0 → (length found ≡ 0 → any ≡ false) → (b || any) ≡ false
@@ -57,14 +72,24 @@ module _ (test : Piece (List Pixel) → Bool) where
       let one = ap length (cond-true (test p) (p ∷ filter test rest) (filter test rest) e) in
       none_of ps (omega arith)
 
+-- the positions of these pieces are placed and no others
+abbrev pub ArePlaced : CanvasView → List (Piece (List Pixel)) → Type 0
+ArePlaced c ps = (i : ℕ) → get_or c.placed i false ≡ list_any (has_place c.tile i) ps
+
 -- a piece whose positions no other one has is free
-pub is_free : (wanted : ℕ → Pixel) (c : CanvasView) (ps rest : List (Piece (List Pixel))) (p : Piece (List Pixel)) → Shows wanted c ps → ((i : ℕ) → length (filter (has_place c.tile i) (ps ++ p ∷ rest)) ≤ 1) → IsFree c p
-is_free wanted c ps rest p shows once i e = shows.placed i ∙ none_before (has_place c.tile i) ps rest p e (once i)
+pub is_free : (c : CanvasView) (ps rest : List (Piece (List Pixel))) (p : Piece (List Pixel)) → ArePlaced c ps → ((i : ℕ) → length (filter (has_place c.tile i) (ps ++ p ∷ rest)) ≤ 1) → IsFree c p
+is_free c ps rest p placed once i e = placed i ∙ none_before (has_place c.tile i) ps rest p e (once i)
 
 -- where each position is in one piece, the canvas is full
-pub is_full : (wanted : ℕ → Pixel) (c : CanvasView) (ps : List (Piece (List Pixel))) → Shows wanted c ps → ((i : ℕ) → i < c.w * c.h → length (filter (has_place c.tile i) ps) ≡ 1) → IsFull c
-is_full wanted c ps shows once i h = shows.placed i ∙ some_of (has_place c.tile i) ps (once i h)
+pub is_full : (c : CanvasView) (ps : List (Piece (List Pixel))) → ArePlaced c ps → ((i : ℕ) → i < c.w * c.h → length (filter (has_place c.tile i) ps) ≡ 1) → IsFull c
+is_full c ps placed once i h = placed i ∙ some_of (has_place c.tile i) ps (once i h)
 
--- a full canvas shows the wanted picture
-pub shown : (wanted : ℕ → Pixel) (c : CanvasView) (ps : List (Piece (List Pixel))) (n : ℕ) → Shows wanted c ps → IsFull c → n ≡ c.w * c.h → length c.pixels ≡ n → c.pixels ≡ map wanted (range_with_len 0 n)
-shown wanted c ps n shows full e size = ext_get_or None c.pixels (map wanted (range_with_len 0 n)) (size ∙ sym (length-map-range_with_len wanted 0 n)) (λ i h. shows.pixels i (full i (omega arith)) ∙ sym (get_or-map-range_with_len wanted 0 n i i None (omega arith) (omega arith)))
+-- a full canvas shows the wanted picture: the wanted pixels by position, restored
+pub shown : (wanted : ℕ → Pixel) (c : CanvasView) (ps : List (Piece (List Pixel))) (n : ℕ) → 1 ≤ c.strands → Shows wanted c ps → IsFull c → n ≡ c.w * c.h → length c.pixels ≡ n → c.pixels ≡ restored n c.strands (map wanted (range_with_len 0 n))
+shown wanted c ps n some shows full e size =
+    let m : ℕ = c.w * c.h in
+    let here : ℕ → Pixel = λ i. wanted (position_of c i) in
+    let each : c.pixels ≡ map here (range_with_len 0 (c.w * c.h)) = ext_get_or None c.pixels (map here (range_with_len 0 (c.w * c.h))) (size ∙ e ∙ sym (length-map-range_with_len here 0 (c.w * c.h))) (λ i l.
+    let low : i < c.w * c.h = omega (arith, l, size, e) in
+    shows.pixels i low (full (position_of c i) (place_within i (c.w * c.h) c.strands some low)) ∙ sym (get_or-map-range_with_len here 0 (c.w * c.h) i i None low (omega arith))) in
+    each ∙ sym (restored_of wanted (c.w * c.h) c.strands some) ∙ ap (λ k. restored k c.strands (map wanted (range_with_len 0 k))) (sym e)

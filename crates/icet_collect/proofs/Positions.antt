@@ -1,10 +1,12 @@
 -- How many positions are left, and a piece placed position by position.
-use Rattle.std.proofs.Common.{◌≡◌, ◌≢◌, ⊎_elim, ℕ, zero, suc, ◌+◌, ◌-◌, ◌<◌, ◌≤◌, Bool, true, false, cond, ◌&&◌, ◌||◌, leb, ltb, eqb, List, [], ◌∷◌, length, get_or, set, replicate, map, Some, None, refl, sym, ◌∙◌, ap, subst, arith, get_or-set_same, get_or-set_other}
+use Rattle.std.proofs.Common.{◌≡◌, ◌≢◌, ⊎_elim, ℕ, zero, suc, ◌+◌, ◌-◌, ◌*◌, ◌<◌, ◌≤◌, Bool, true, false, cond, ◌&&◌, ◌||◌, leb, ltb, eqb, List, [], ◌∷◌, length, get_or, set, replicate, map, Some, None, refl, sym, ◌∙◌, ap, subst, arith, get_or-set_same, get_or-set_other}
 use Rattle.std.proofs.lemmas.Bool.{true≢false, false≢true, lt-ltb, le-ltb, le-leb, lt-leb, eq-eqb, cases_eq, cases_lt, and_right, and_left, and_from, and_parts, leb-true, ltb-true}
 use Rattle.icet_model.specs.Pixel.{Pixel, FragmentView}
 use Rattle.icet_model.specs.Run.{Piece}
 use Rattle.icet_model.specs.Plan.{has_place}
-use Rattle.icet_collect.specs.Collect.{CanvasView, IsFree, Places, left_in, with_pixel, stretch}
+use Rattle.icet_interlace.specs.Interlace.{place}
+use Rattle.icet_interlace.proofs.Places.{place_apart}
+use Rattle.icet_collect.specs.Collect.{CanvasView, IsCanvas, IsFree, Places, left_in, position_of, stretch}
 
 pub left_in_blank : (n : ℕ) → left_in (replicate n false) ≡ n
 left_in_blank zero = refl
@@ -32,18 +34,7 @@ left_none (false ∷ xs) f = absurd (false≢true (f 0 (omega arith)))
 abbrev pub below : Piece (List Pixel) → ℕ → Piece (List Pixel)
 below p i = record { tile = p.tile; lo = p.lo; hi = i; content = p.content }
 
-ltb_step : (k i : ℕ) → k ≢ i → ltb k (i + 1) ≡ ltb k i
-ltb_step k i ne = ⊎_elim (λ (h : k < i). lt-ltb k (i + 1) (omega arith) ∙ sym (lt-ltb k i h)) (λ (h : i ≤ k). le-ltb k (i + 1) (omega arith) ∙ sym (le-ltb k i h)) (cases_lt k i)
-
 module _ (t : ℕ) (p : Piece (List Pixel)) where
-  -- another position than the new one
-  has_other : (i k : ℕ) → k ≢ i → has_place t k (below p (i + 1)) ≡ has_place t k (below p i)
-  has_other i k ne = ap (λ b. (eqb p.tile t) && (leb p.lo k && b)) (ltb_step k i ne)
-
-  -- the new position
-  has_new : (i : ℕ) → p.tile ≡ t → p.lo ≤ i → has_place t i (below p (i + 1)) ≡ true
-  has_new i e h = and_from (eqb p.tile t) (leb p.lo i && ltb i (i + 1)) (eq-eqb p.tile t e) (and_from (leb p.lo i) (ltb i (i + 1)) (le-leb p.lo i h) (lt-ltb i (i + 1) (omega arith)))
-
   -- a position of the piece
   pub has_inside : (i : ℕ) → p.tile ≡ t → p.lo ≤ i → i < p.hi → has_place t i p ≡ true
   has_inside i e h k = and_from (eqb p.tile t) (leb p.lo i && ltb i p.hi) (eq-eqb p.tile t e) (and_from (leb p.lo i) (ltb i p.hi) (le-leb p.lo i h) (lt-ltb i p.hi k))
@@ -64,19 +55,59 @@ places_none a p = record {
   h = refl;
   strands = refl;
   placed = λ k. rw (has_none a.tile p k);
-  pixels = λ k. rw (has_none a.tile p k);
+  pixels = λ k l. rw (has_none a.tile p (position_of a k));
 }
 
--- one more position
-pub places_more : (a b c : CanvasView) (p : Piece (List Pixel)) (i : ℕ) (v : Pixel) → Places a b (below p i) → p.tile ≡ a.tile → p.lo ≤ i → i < length b.placed → i < length b.pixels → v ≡ get_or p.content (i - p.lo) None → c ≡ with_pixel b i v → Places a c (below p (i + 1))
-places_more a b c p i v at e h l m ve ce = subst (λ x. Places a x (below p (i + 1))) (sym ce) (record {
-  tile = at.tile;
-  w = at.w;
-  h = at.h;
-  strands = at.strands;
-  placed = λ k. ⊎_elim (λ (q : k ≡ i). subst (λ j. get_or (set b.placed i true) j false ≡ (has_place a.tile j (below p (i + 1)) || get_or a.placed j false)) (sym q) (get_or-set_same b.placed i true false l ∙ ap (λ t. t || get_or a.placed i false) (sym (has_new a.tile p i e h)))) (λ (q : k ≢ i). get_or-set_other b.placed i k true false q ∙ at.placed k ∙ ap (λ t. t || get_or a.placed k false) (sym (has_other a.tile p i k q))) (cases_eq k i);
-  pixels = λ k. ⊎_elim (λ (q : k ≡ i). subst (λ j. get_or (set b.pixels i v) j None ≡ cond (has_place a.tile j (below p (i + 1))) (get_or p.content (j - p.lo) None) (get_or a.pixels j None)) (sym q) (get_or-set_same b.pixels i v None m ∙ ve ∙ ap (λ t. cond t (get_or p.content (i - p.lo) None) (get_or a.pixels i None)) (sym (has_new a.tile p i e h)))) (λ (q : k ≢ i). get_or-set_other b.pixels i k v None q ∙ at.pixels k ∙ ap (λ t. cond t (get_or p.content (k - p.lo) None) (get_or a.pixels k None)) (sym (has_other a.tile p i k q))) (cases_eq k i);
-})
+-- the one position of a stretch of one pixel
+has_one : (t i : ℕ) (v : Pixel) → has_place t i (stretch t i (v ∷ [])) ≡ true
+has_one t i v = has_inside t (stretch t i (v ∷ [])) i refl (omega arith) (omega arith)
+
+has_other : (t i k : ℕ) (v : Pixel) → k ≢ i → has_place t k (stretch t i (v ∷ [])) ≡ false
+has_other t i k v ne = ⊎_elim (λ (h : k < i). and_right (eqb t t) (leb i k && ltb k (i + length (v ∷ []))) (and_left (leb i k) (ltb k (i + length (v ∷ []))) (lt-leb i k h))) (λ (h : i ≤ k). has_behind t (stretch t i (v ∷ [])) (i + 1) k (omega arith)) (cases_lt k i)
+
+-- one more position, whose pixel is this one
+one_placed : (a : CanvasView) (position : ℕ) (v : Pixel) → position < length a.placed → (k : ℕ) → get_or (set a.placed position true) k false ≡ (has_place a.tile k (stretch a.tile position (v ∷ [])) || get_or a.placed k false)
+one_placed a position v l k = ⊎_elim (λ (q : k ≡ position). subst (λ j. get_or (set a.placed position true) j false ≡ (has_place a.tile j (stretch a.tile position (v ∷ [])) || get_or a.placed j false)) (sym q) (get_or-set_same a.placed position true false l ∙ ap (λ t. t || get_or a.placed position false) (sym (has_one a.tile position v)))) (λ (q : k ≢ position). get_or-set_other a.placed position k true false q ∙ ap (λ t. t || get_or a.placed k false) (sym (has_other a.tile position k v q))) (cases_eq k position)
+
+-- the pixel at a position, in a stretch of one
+own_pixel : (v : Pixel) (position q : ℕ) → q ≡ position → get_or (v ∷ []) (q - position) None ≡ v
+own_pixel v position q e = ap (λ n. get_or (v ∷ []) n None) (let z : q - position ≡ 0 = omega (arith, e) in z)
+
+module _ (a : CanvasView) (position : ℕ) (v : Pixel) (can : IsCanvas a) (inside : position < a.w * a.h) where
+  abbrev one : Piece (List Pixel)
+  one = stretch a.tile position (v ∷ [])
+
+  at_other : (k : ℕ) → position_of a k ≢ position → get_or a.pixels k None ≡ cond (has_place a.tile (position_of a k) one) (get_or one.content (position_of a k - one.lo) None) (get_or a.pixels k None)
+  at_other k ne = sym (ap (λ t. cond t (get_or one.content (position_of a k - one.lo) None) (get_or a.pixels k None)) (has_other a.tile position (position_of a k) v ne))
+
+  at_own : (k : ℕ) → position_of a k ≡ position → v ≡ cond (has_place a.tile (position_of a k) one) (get_or one.content (position_of a k - one.lo) None) (get_or a.pixels k None)
+  at_own k e = sym (ap (λ t. cond t (get_or one.content (position_of a k - one.lo) None) (get_or a.pixels k None)) (ap (λ q. has_place a.tile q one) e ∙ has_one a.tile position v) ∙ own_pixel v position (position_of a k) e)
+
+  pub put_places : (i : ℕ) → i < a.w * a.h → position_of a i ≡ position → Places a (record a { placed = set a.placed position true; pixels = set a.pixels i v }) one
+  put_places i l own = record {
+    tile = refl;
+    w = refl;
+    h = refl;
+    strands = refl;
+    placed = one_placed a position v (omega (arith, inside, can.places));
+    pixels = λ k h. ⊎_elim
+        (λ (q : k ≡ i). ap (λ j. get_or (set a.pixels i v) j None) q ∙ get_or-set_same a.pixels i v None (omega (arith, l, can.size)) ∙ at_own k (ap (position_of a) q ∙ own))
+        (λ (q : k ≢ i). get_or-set_other a.pixels i k v None q ∙ at_other k (λ e. q (place_apart k i (a.w * a.h) a.strands h l can.strands (e ∙ sym own))))
+        (cases_eq k i);
+  }
+
+  pub mark_places : v ≡ None → get_or a.placed position false ≡ false → ((k : ℕ) → k < a.w * a.h → get_or a.placed (position_of a k) false ≡ false → get_or a.pixels k None ≡ None) → Places a (record a { placed = set a.placed position true }) one
+  mark_places none free blank = record {
+    tile = refl;
+    w = refl;
+    h = refl;
+    strands = refl;
+    placed = one_placed a position v (omega (arith, inside, can.places));
+    pixels = λ k h. ⊎_elim
+        (λ (q : position_of a k ≡ position). blank k h (ap (λ j. get_or a.placed j false) q ∙ free) ∙ sym none ∙ at_own k q)
+        (λ (q : position_of a k ≢ position). at_other k q)
+        (cases_eq (position_of a k) position);
+  }
 
 -- the positions behind are free
 pub places_free : (a b : CanvasView) (p : Piece (List Pixel)) (i j : ℕ) → Places a b (below p i) → IsFree a p → p.tile ≡ a.tile → p.lo ≤ i → i ≤ j → j < p.hi → get_or b.placed j false ≡ false
@@ -112,11 +143,23 @@ module _ (a b c : CanvasView) (p : Piece (List Pixel)) (at : ℕ) (ps : List Pix
       (λ l m. let r = in_it k l m in rw (r.0, r.1))
       (λ l. let r = behind_it k l in rw (r.0, r.1) (front.placed k ∙ rw r.2))
 
-  pixel_is : (k : ℕ) → get_or c.pixels k None ≡ cond (has_place a.tile k (below p (at + length ps))) (get_or p.content (k - p.lo) None) (get_or a.pixels k None)
-  pixel_is k = next.pixels k ∙ by_place k (cond (has_place b.tile k (stretch b.tile at ps)) (get_or ps (k - at) None) (get_or b.pixels k None) ≡ cond (has_place a.tile k (below p (at + length ps))) (get_or p.content (k - p.lo) None) (get_or a.pixels k None))
-      (λ l. let r = before_it k l in rw (r.0, r.1) (front.pixels k))
+  -- a pixel with position k
+  pixel_at : (k : ℕ) (new old first : Pixel) → new ≡ cond (has_place b.tile k (stretch b.tile at ps)) (get_or ps (k - at) None) old → old ≡ cond (has_place a.tile k (below p at)) (get_or p.content (k - p.lo) None) first → new ≡ cond (has_place a.tile k (below p (at + length ps))) (get_or p.content (k - p.lo) None) first
+  pixel_at k new old first n o = n ∙ by_place k (cond (has_place b.tile k (stretch b.tile at ps)) (get_or ps (k - at) None) old ≡ cond (has_place a.tile k (below p (at + length ps))) (get_or p.content (k - p.lo) None) first)
+      (λ l. let r = before_it k l in rw (r.0, r.1) o)
       (λ l m. let r = in_it k l m in let place : at - p.lo + (k - at) ≡ k - p.lo = omega arith in rw (r.0, r.1) (same (k - at) (omega arith) ∙ ap (λ i. get_or p.content i None) place))
-      (λ l. let r = behind_it k l in rw (r.0, r.1) (front.pixels k ∙ rw r.2))
+      (λ l. let r = behind_it k l in rw (r.0, r.1) (o ∙ rw r.2))
+
+  same_size : b.w * b.h ≡ a.w * a.h
+  same_size = λ j. front.w j * front.h j
+
+  same_position : (k : ℕ) → position_of b k ≡ position_of a k
+  same_position k = λ j. place k (same_size j) (front.strands j)
+
+  pixel_is : (k : ℕ) → k < a.w * a.h → get_or c.pixels k None ≡ cond (has_place a.tile (position_of a k) (below p (at + length ps))) (get_or p.content (position_of a k - p.lo) None) (get_or a.pixels k None)
+  pixel_is k l = pixel_at (position_of a k) (get_or c.pixels k None) (get_or b.pixels k None) (get_or a.pixels k None)
+      (next.pixels k (omega (arith, l, same_size)) ∙ ap (λ q. cond (has_place b.tile q (stretch b.tile at ps)) (get_or ps (q - at) None) (get_or b.pixels k None)) (same_position k))
+      (front.pixels k l)
 
   -- the next stretch is placed
   pub places_join : Places a c (below p (at + length ps))
@@ -129,6 +172,14 @@ module _ (a b c : CanvasView) (p : Piece (List Pixel)) (at : ℕ) (ps : List Pix
     pixels = pixel_is;
   }
 
+one_same : (v : Pixel) (xs : List Pixel) (m : ℕ) → v ≡ get_or xs m None → (k : ℕ) → k < length (v ∷ []) → get_or (v ∷ []) k None ≡ get_or xs (m + k) None
+one_same v xs m e zero l = e ∙ ap (λ j. get_or xs j None) (let z : m ≡ m + 0 = omega arith in z)
+one_same v xs m e (suc k) l = absurd (omega arith)
+
+-- one more position
+pub places_more : (a b c : CanvasView) (p : Piece (List Pixel)) (i : ℕ) (v : Pixel) → Places a b (below p i) → Places b c (stretch b.tile i (v ∷ [])) → p.tile ≡ a.tile → p.lo ≤ i → v ≡ get_or p.content (i - p.lo) None → Places a c (below p (i + 1))
+places_more a b c p i v front next e h value = places_join a b c p i (v ∷ []) front next e h (one_same v p.content (i - p.lo) value)
+
 -- the pixels at which none is placed stay None
 pub blank_pixel : (n i : ℕ) → get_or (replicate {A = Pixel} n None) i None ≡ None
 blank_pixel zero i = refl
@@ -139,12 +190,19 @@ blank_pixel (suc n) (suc i) = blank_pixel n i
 pub blank_of : (n k : ℕ) → None ≡ get_or (replicate {A = Pixel} n None) k None
 blank_of n k = sym (blank_pixel n k)
 
-pub still_blank : (placed : List Bool) (pixels : List Pixel) (i : ℕ) (v : Pixel) → i < length placed → ((k : ℕ) → get_or placed k false ≡ false → get_or pixels k None ≡ None) → (k : ℕ) → get_or (set placed i true) k false ≡ false → get_or (set pixels i v) k None ≡ None
-still_blank placed pixels i v l blank k e = ⊎_elim (λ (q : k ≡ i). absurd (true≢false (sym (subst (λ j. get_or (set placed i true) j false ≡ true) (sym q) (get_or-set_same placed i true false l)) ∙ e))) (λ (q : k ≢ i). get_or-set_other pixels i k v None q ∙ blank k (sym (get_or-set_other placed i k true false q) ∙ e)) (cases_eq k i)
+-- what is still left is blank, where one more position was placed with its pixel
+pub still_blank : (position_at : ℕ → ℕ) (n : ℕ) (placed : List Bool) (pixels : List Pixel) (position i : ℕ) (v : Pixel) → position < length placed → position_at i ≡ position → ((k : ℕ) → k < n → get_or placed (position_at k) false ≡ false → get_or pixels k None ≡ None) → (k : ℕ) → k < n → get_or (set placed position true) (position_at k) false ≡ false → get_or (set pixels i v) k None ≡ None
+still_blank position_at n placed pixels position i v l own blank k h e = ⊎_elim
+    (λ (q : position_at k ≡ position). absurd (true≢false (sym (ap (λ j. get_or (set placed position true) j false) q ∙ get_or-set_same placed position true false l) ∙ e)))
+    (λ (q : position_at k ≢ position). get_or-set_other pixels i k v None (λ f. q (ap position_at f ∙ own)) ∙ blank k h (sym (get_or-set_other placed position (position_at k) true false q) ∙ e))
+    (cases_eq (position_at k) position)
 
 -- where nothing is drawn the pixels stay as they are
-pub marked_blank : (placed : List Bool) (pixels : List Pixel) (i : ℕ) → i < length placed → ((k : ℕ) → get_or placed k false ≡ false → get_or pixels k None ≡ None) → (k : ℕ) → get_or (set placed i true) k false ≡ false → get_or pixels k None ≡ None
-marked_blank placed pixels i l blank k e = ⊎_elim (λ (q : k ≡ i). absurd (true≢false (sym (subst (λ j. get_or (set placed i true) j false ≡ true) (sym q) (get_or-set_same placed i true false l)) ∙ e))) (λ (q : k ≢ i). blank k (sym (get_or-set_other placed i k true false q) ∙ e)) (cases_eq k i)
+pub marked_blank : (position_at : ℕ → ℕ) (n : ℕ) (placed : List Bool) (pixels : List Pixel) (position : ℕ) → position < length placed → ((k : ℕ) → k < n → get_or placed (position_at k) false ≡ false → get_or pixels k None ≡ None) → (k : ℕ) → k < n → get_or (set placed position true) (position_at k) false ≡ false → get_or pixels k None ≡ None
+marked_blank position_at n placed pixels position l blank k h e = ⊎_elim
+    (λ (q : position_at k ≡ position). absurd (true≢false (sym (ap (λ j. get_or (set placed position true) j false) q ∙ get_or-set_same placed position true false l) ∙ e)))
+    (λ (q : position_at k ≢ position). blank k h (sym (get_or-set_other placed position (position_at k) true false q) ∙ e))
+    (cases_eq (position_at k) position)
 
 -- a pixel of a stretch that is drawn
 pub drawn_pixel : (fs : List FragmentView) (k : ℕ) (f : FragmentView) → k < length fs → f ≡ get_or fs k f → Some f ≡ get_or (map Some fs) k None

@@ -1,21 +1,25 @@
-ghost use Rattle.std.specs.Prelude.{◌≡◌, ℕ, ◌+◌, ◌*◌, ◌<◌, ◌≤◌, ◌^◌, ◌↔◌, IfOk, IsTrue, Some, None, false, length, map, replicate, get_or};
-ghost use Rattle.icet_collect.specs.Collect.{CanvasView, blank_canvas, with_pixel, stretch, IsCanvas, IsFree, IsFull, Places};
+ghost use Rattle.std.specs.Prelude.{◌≡◌, ℕ, ◌+◌, ◌*◌, ◌<◌, ◌≤◌, ◌^◌, ◌↔◌, IfOk, IsTrue, Some, None, [], ◌∷◌, false, length, map, replicate, get_or};
+ghost use Rattle.icet_collect.specs.Collect.{CanvasView, blank_canvas, position_of, stretch, IsCanvas, IsFree, IsFull, Places};
 ghost use Rattle.icet_model.specs.declared.limits.TheConstants.{MAX_RANK_PIXELS};
 
 use icet_base::NoMemory;
+use icet_interlace::pixel_at;
 use icet_pixel::{Dense, Fragment, Pixel};
 use icet_sparse::Sparse;
 use std::alloc::Global;
 use std::marker::Model;
 
-/// The picture of a tile while its final pieces come in.
+/// The picture of a tile while its final pieces come in. A piece's positions are those of interlaced
+/// pixels; each pixel is put where it stands in the picture.
 #[derive(Drop)]
 pub struct Canvas {
     tile: u32,
     w: u32,
     h: u32,
     strands: u32,
+    /// Whether a position was placed.
     placed: Vec<bool>,
+    /// The pixels of the picture.
     pixels: Vec<Pixel>,
     /// How many positions were not placed yet.
     left: usize,
@@ -33,10 +37,10 @@ impl Model for Canvas {
 
 impl Canvas {
     /// A canvas of `w` by `h` positions, none of them placed. Condition: there are at most 67,108,864
-    /// positions, and one strand.
+    /// positions, and at least one strand.
     pub fn blank(alloc: Global, tile: u32, w: u32, h: u32, strands: u32) -> Result<Canvas, NoMemory>
         requires most { w * h ≤ MAX_RANK_PIXELS }
-        requires strands { strands ≡ 1 }
+        requires strands { 1 ≤ strands }
         ensures { IfOk result (λ c. c ≡ blank_canvas tile w h strands) }
     {
         let left = w as usize * h as usize;
@@ -79,8 +83,8 @@ impl Canvas {
         requires free { IsFree self.old (stretch self.old.tile at (replicate count None)) }
         ensures { Places self.old self.new (stretch self.old.tile at (replicate count None)) }
     {
-        'leaving: for i in at..at + count {
-            self.mark(i);
+        'leaving: for position in at..at + count {
+            self.mark(position);
         }
     }
 
@@ -91,32 +95,46 @@ impl Canvas {
         requires free { IsFree self.old (stretch self.old.tile at (map Some fragments.now)) }
         ensures { Places self.old self.new (stretch self.old.tile at (map Some fragments.now)) }
     {
-        'putting: for i in at..at + fragments.len() as u32 {
-            self.put(i, fragments[(i - at) as usize]);
+        'putting: for position in at..at + fragments.len() as u32 {
+            self.put(position, fragments[(position - at) as usize]);
         }
     }
 
     /// Puts a drawn pixel at a position that was not placed.
-    fn put(&mut self, i: u32, fragment: Fragment)
-        requires inside { i < self.old.w * self.old.h }
-        requires free { get_or self.old.placed i false ≡ false }
-        ensures value { self.new ≡ with_pixel self.old i (Some fragment) }
+    fn put(&mut self, position: u32, fragment: Fragment)
+        requires inside { position < self.old.w * self.old.h }
+        requires free { get_or self.old.placed position false ≡ false }
+        ensures places { Places self.old self.new (stretch self.old.tile position (Some fragment ∷ [])) }
         ensures known { IsCanvas self.old }
     {
-        self.placed[i as usize] = true;
+        let i = self.pixel_of(position);
+        self.placed[position as usize] = true;
         self.pixels[i as usize] = Some(fragment);
         self.left -= 1;
     }
 
     /// Marks a position that was not placed; its pixel is None already.
-    fn mark(&mut self, i: u32)
-        requires inside { i < self.old.w * self.old.h }
-        requires free { get_or self.old.placed i false ≡ false }
-        ensures value { self.new ≡ with_pixel self.old i None }
+    fn mark(&mut self, position: u32)
+        requires inside { position < self.old.w * self.old.h }
+        requires free { get_or self.old.placed position false ≡ false }
+        ensures places { Places self.old self.new (stretch self.old.tile position (None ∷ [])) }
         ensures known { IsCanvas self.old }
     {
-        self.placed[i as usize] = true;
+        self.placed[position as usize] = true;
         self.left -= 1;
+    }
+
+    /// The pixel that has a position; with one strand it is the position itself.
+    fn pixel_of(&self, position: u32) -> u32
+        requires { position < self.now.w * self.now.h }
+        ensures within { result < self.now.w * self.now.h }
+        ensures place { position_of self.now result ≡ position }
+        ensures known { IsCanvas self.now }
+    {
+        if self.strands == 1 {
+            return position;
+        }
+        pixel_at(position, self.w * self.h, self.strands)
     }
 
     /// Whether every position was placed.

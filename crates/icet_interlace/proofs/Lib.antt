@@ -1,2 +1,3 @@
 pub mod Interlaced
 pub mod Places
+pub mod Strands

@@ -11,7 +11,7 @@ use Rattle.std.proofs.lemmas.Nat.{div-add-mod', div-mul-add, mod-mul-add, div_be
 use Rattle.std.proofs.Math.Nat.{suc-mul, mul-suc, add-mul, mul_comm, mod-one, div-one}
 use Rattle.icet_interlace.specs.Interlace.{strand, place}
 
-range_more : (a n : ℕ) → range_with_len a (suc n) ≡ range_with_len a n ++ (a + n) ∷ []
+pub range_more : (a n : ℕ) → range_with_len a (suc n) ≡ range_with_len a n ++ (a + n) ∷ []
 range_more a zero = ap (λ x. x ∷ []) (let e : a ≡ a + 0 = omega arith in e)
 range_more a (suc n) = ap (λ l. a ∷ l) (range_more (a + 1) n ∙ ap (λ x. range_with_len (a + 1) n ++ x ∷ []) (let e : a + 1 + n ≡ a + suc n = omega arith in e))
 
@@ -41,14 +41,14 @@ module _ (S j : ℕ) (h : j < S) where
   size_whole zero = ap (λ n. length (strand j n S)) (let e : 0 * S ≡ 0 = omega arith in e)
   size_whole (suc q) = ap (λ n. length (strand j n S)) (suc-mul q S) ∙ size_in q (size_whole q) S (omega arith) ∙ rw (lt-ltb j S h) (let e : q + 1 ≡ suc q = omega arith in e)
 
-  size_is : (n : ℕ) → length (strand j n S) ≡ n / S + cond (ltb j (n % S)) 1 0
+  pub size_is : (n : ℕ) → length (strand j n S) ≡ n / S + cond (ltb j (n % S)) 1 0
   size_is n = let small = mod_below n S (omega arith) in ap (λ m. length (strand j m S)) (sym (div-add-mod' n S)) ∙ size_in (n / S) (size_whole (n / S)) (n % S) (omega arith)
 
 -- where strand k begins
 start_more : (k q r : ℕ) → k * q + min k r + (q + cond (ltb k r) 1 0) ≡ suc k * q + min (suc k) r
 start_more k q r = let e = suc-mul k q in ⊎_elim (λ (h : k < r). rw (lt-ltb k r h) (omega arith)) (λ (h : r ≤ k). rw (le-ltb k r h) (omega arith)) (cases_lt k r)
 
-start_is : (n S k : ℕ) → k ≤ S → sum_by (λ j. length (strand j n S)) (range_with_len 0 k) ≡ k * (n / S) + min k (n % S)
+pub start_is : (n S k : ℕ) → k ≤ S → sum_by (λ j. length (strand j n S)) (range_with_len 0 k) ≡ k * (n / S) + min k (n % S)
 start_is n S zero l = omega arith
 start_is n S (suc k) l =
     let size : ℕ → ℕ = λ j. length (strand j n S) in
@@ -62,7 +62,7 @@ pub place_is : (i n S : ℕ) → 0 < S → place i n S ≡ at (i % S) (i / S) (n
 place_is i n S h = let l = mod_below i S h in ap (λ s. s + i / S) (start_is n S (i % S) (omega arith))
 
 -- the pixel's turn is one that its strand has
-turn : (j k q r S : ℕ) → r < S → k * S + j < q * S + r → (k < q) ⊎ ((k ≡ q) × (j < r))
+pub turn : (j k q r S : ℕ) → r < S → k * S + j < q * S + r → (k < q) ⊎ ((k ≡ q) × (j < r))
 turn j k q r S h l = ⊎_elim (λ (g : k < q). inl g) (λ (g : q ≤ k). ⊎_elim (λ (f : q < k). let m = mul-le (suc q) S k S (omega arith) (omega arith) in let e = suc-mul q S in absurd (omega arith)) (λ (f : k ≤ q). let same : k ≡ q = omega arith in inr (same, (let p : k * S ≡ q * S = ap (λ x. x * S) same in omega arith))) (cases_lt q k)) (cases_lt k q)
 
 before_next : (j k q r S : ℕ) → r < S → k * S + j < q * S + r → at j k q r < suc j * q + min (suc j) r
@@ -75,7 +75,7 @@ strands_apart : (i j k l q r S : ℕ) → i < j → r < S → k * S + i < q * S 
 strands_apart i j k l q r S less h f = let b = before_next i k q r S h f in let m = mul-le (suc i) q j q (omega arith) (omega arith) in omega arith
 
 module _ (i n S : ℕ) (h : 0 < S) (l : i < n) where
-  in_rounds : i / S * S + i % S < n / S * S + n % S
+  pub in_rounds : i / S * S + i % S < n / S * S + n % S
   in_rounds = let e = div-add-mod' i S in let f = div-add-mod' n S in omega arith
 
   pub place_within : place i n S < n

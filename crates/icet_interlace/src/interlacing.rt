@@ -2,7 +2,7 @@ ghost use Rattle.std.specs.Prelude.{◌≡◌, List, ◌<◌, ◌≤◌, IfOk};
 ghost use Rattle.icet_model.specs.Pixel.{Pixel};
 ghost use Rattle.icet_model.specs.Run.{Piece};
 ghost use Rattle.icet_model.specs.declared.limits.TheConstants.{MAX_RANK_PIXELS};
-ghost use Rattle.icet_interlace.specs.Interlace.{place, IsWhole, IsInterlaced};
+ghost use Rattle.icet_interlace.specs.Interlace.{place, interlaced_piece, IsWhole, IsInterlaced};
 
 use icet_base::NoMemory;
 use icet_pixel::Pixel;
@@ -22,8 +22,9 @@ pub fn place(i: u32, n: u32, strands: u32) -> u32
     strand * (n / strands) + strand.min(n % strands) + i / strands
 }
 
-/// The pixel at a position, of which it is the place.
-fn pixel_at(position: u32, n: u32, strands: u32) -> u32
+/// The pixel at a position, of which it is the place. Condition: the position is below `n`, which is at
+/// most `MAX_RANK_PIXELS`, and there is a strand.
+pub fn pixel_at(position: u32, n: u32, strands: u32) -> u32
     requires position { position < n }
     requires most { n ≤ MAX_RANK_PIXELS }
     requires strands { 0 < strands }
@@ -48,6 +49,7 @@ pub fn interlace(alloc: Global, image: &Sparse, strands: u32) -> Result<Sparse, 
     requires lo { image.now.lo ≡ 0 }
     requires most { image.now.hi ≤ MAX_RANK_PIXELS }
     requires strands { 0 < strands }
+    ensures exact { IfOk result (λ s. s ≡ interlaced_piece strands image.now) }
     ensures places { IfOk result (λ s. IsInterlaced strands image.now s) }
     ensures one { strands ≡ 1 → IfOk result (λ s. s ≡ image.now) }
 {
@@ -61,7 +63,7 @@ pub fn interlace(alloc: Global, image: &Sparse, strands: u32) -> Result<Sparse, 
         let i = pixel_at(position, count, strands);
         pixels.push_pixel(cells[i as usize])?;
     }
-    Ok(Sparse::from_strip(image.tile(), 0, count, pixels))
+    Ok(Sparse::from_strip(image.tile(), 0, count, pixels)?)
 }
 
 /// The image whose pixels are at their places in the given one. Condition: that of `interlace`.
@@ -83,7 +85,7 @@ pub fn restore(alloc: Global, image: &Sparse, strands: u32) -> Result<Sparse, No
         let position = place(i, count, strands);
         pixels.push_pixel(cells[position as usize])?;
     }
-    Ok(Sparse::from_strip(image.tile(), 0, count, pixels))
+    Ok(Sparse::from_strip(image.tile(), 0, count, pixels)?)
 }
 
 /// The pixels of an image, blank ones too.

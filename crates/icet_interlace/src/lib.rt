@@ -4,4 +4,4 @@
 pub mod interlacing;
 pub mod laws;
 
-pub use interlacing::{interlace, place, restore};
+pub use interlacing::{interlace, pixel_at, place, restore};

@@ -1,6 +1,6 @@
 -- A scene's order, contributors and images are what a plan and a net are opened with.
-use Rattle.std.proofs.Common.{◌≡◌, ◌≢◌, ℕ, zero, suc, ◌+◌, ◌*◌, ◌<◌, ◌≤◌, List, [], ◌∷◌, map, length, get_or, Option, None, refl, sym, ap, ◌∙◌, subst, arith}
-use Rattle.std.specs.Prelude.{All, AllPairs}
+use Rattle.std.proofs.Common.{◌≡◌, ◌≢◌, ℕ, zero, suc, ◌+◌, ◌*◌, ◌<◌, ◌≤◌, List, [], ◌∷◌, map, length, get_or, Option, Some, None, refl, sym, ap, ◌∙◌, subst, arith}
+use Rattle.std.specs.Prelude.{All, AllPairs, slice_get}
 use Rattle.std.specs.List.{range_with_len, sum_by, AllByRecursion}
 use Rattle.std.proofs.lemmas.List.{length-map}
 use Rattle.std.proofs.lemmas.List.FromFn.{length-range_with_len}
@@ -52,15 +52,27 @@ at_least_once : (n s : ℕ) → 1 ≤ n → s ≤ n * s
 at_least_once zero s l = absurd (omega arith)
 at_least_once (suc n) s l = let h = suc-mul n s in omega (arith, h)
 
-pub can_open : (settings : Settings) (scene : SceneView) (plan : PlanView) → IsLawfulScene scene → length scene.order ≡ scene.ranks → IsPlanFor settings scene plan → CanOpen plan scene.tiles (rank_images scene)
-can_open settings scene plan lawful many is =
+tiles_small : (scene : SceneView) → IsLawfulScene scene → AllByRecursion (λ n. n ≤ MAX_RANK_PIXELS) (map pixels_of scene.tiles)
+tiles_small scene lawful = each_small scene.tiles MAX_RANK_PIXELS (let l = at_least_once scene.ranks (sum_by pixels_of scene.tiles) lawful.some in omega (arith, l, lawful.small))
+
+small_in : (tiles : List AreaTile) (most t : ℕ) (tile : AreaTile) → AllByRecursion (λ n. n ≤ most) (map pixels_of tiles) → slice_get tiles t ≡ Some tile → pixels_of tile ≤ most
+small_in [] most t tile a e = absurd cc
+small_in (x ∷ tiles) most zero tile a e = subst (λ (y : AreaTile). pixels_of y ≤ most) (let h : x ≡ tile = cc in h) a.0
+small_in (x ∷ tiles) most (suc t) tile a e = small_in tiles most t tile a.1 e
+
+-- no tile of a scene has more pixels than all ranks' images may have
+pub tile_small : (scene : SceneView) (t : ℕ) (tile : AreaTile) → IsLawfulScene scene → slice_get scene.tiles t ≡ Some tile → tile.area.w * tile.area.h ≤ MAX_RANK_PIXELS
+tile_small scene t tile lawful e = small_in scene.tiles MAX_RANK_PIXELS t tile (tiles_small scene lawful) e
+
+pub can_open : (settings : Settings) (strands : ℕ) (scene : SceneView) (plan : PlanView) → 1 ≤ strands → IsLawfulScene scene → length scene.order ≡ scene.ranks → IsPlanFor settings scene plan → CanOpen plan scene.tiles (rank_images strands scene)
+can_open settings strands scene plan some lawful many is =
     let sizes = sym (is.sizes ∙ sizes_are (λ tile. contributors (boxes_of scene) scene.order tile.area) scene.tiles) in
     record {
       sizes = sizes;
       displays = sym (is.displays ∙ displays_are (λ tile. contributors (boxes_of scene) scene.order tile.area) scene.tiles);
-      small = subst (AllByRecursion (λ n. n ≤ MAX_RANK_PIXELS)) sizes (each_small scene.tiles MAX_RANK_PIXELS (let l = at_least_once scene.ranks (sum_by pixels_of scene.tiles) lawful.some in omega (arith, l, lawful.small)));
-      count = length-map (range_with_len 0 scene.ranks) (rank_image scene) ∙ length-range_with_len 0 scene.ranks ∙ sym (is.programs ∙ many);
-      whole = subst (λ ns. AllByRecursion (AreWholeImages ns) (rank_images scene)) sizes (whole_images scene);
+      small = subst (AllByRecursion (λ n. n ≤ MAX_RANK_PIXELS)) sizes (tiles_small scene lawful);
+      count = length-map (range_with_len 0 scene.ranks) (rank_image strands scene) ∙ length-range_with_len 0 scene.ranks ∙ sym (is.programs ∙ many);
+      whole = subst (λ ns. AllByRecursion (AreWholeImages ns) (rank_images strands scene)) sizes (whole_images strands scene some);
     }
 
 -- a scene's tiles are what strategies want

@@ -32,7 +32,9 @@ use Rattle.icet_net.specs.Opening.{sides_of}
 use Rattle.icet_net.specs.Closing.{picture_of, pictures_of}
 use Rattle.icet_jobs.specs.Composites.{IsPlanFor, brackets_of, scene_tiles, images_of, plain_pictures}
 use Rattle.icet_jobs.proofs.SameValues.{same_value}
-use Rattle.icet_jobs.proofs.SceneImages.{image_at, made_at, same_image}
+use Rattle.icet_interlace.specs.Interlace.{interlaced, place, restored}
+use Rattle.icet_interlace.proofs.Strands.{interlaced_each, restored_of}
+use Rattle.icet_jobs.proofs.SceneImages.{image_at, image_length, made_at, same_image}
 
 front : (x y : Pixel) (xs ys : List Pixel) → x ≡ y → nearest xs ≡ nearest ys → nearest (x ∷ xs) ≡ nearest (y ∷ ys)
 front x y xs ys e h = ap (λ p. nearest (p ∷ xs)) e ∙ go y
@@ -112,12 +114,22 @@ pub record IsOrdered (scene : SceneView) : Type 0 where
   pub ascending : scene.mode ≡ Depth → scene.order ≡ range_with_len 0 scene.ranks
   pub once : HasEachOnce scene.ranks scene.order
 
-module _ (scene : SceneView) (ordered : IsOrdered scene) (t : ℕ) (tile : AreaTile) (at : slice_get scene.tiles t ≡ Some tile) where
+same_below : (f g : ℕ → Pixel) (first n : ℕ) → ((i : ℕ) → i < first + n → f i ≡ g i) → map f (range_with_len first n) ≡ map g (range_with_len first n)
+same_below f g first zero h = refl
+same_below f g first (suc n) h = ap (λ x. x ∷ map f (range_with_len (first + 1) n)) (h first (omega arith)) ∙ ap (λ xs. g first ∷ xs) (same_below f g (first + 1) n (λ i l. h i (omega (arith, l))))
+
+module _ (strands : ℕ) (some : 1 ≤ strands) (scene : SceneView) (ordered : IsOrdered scene) (t : ℕ) (tile : AreaTile) (at : slice_get scene.tiles t ≡ Some tile) where
   abbrev images : Images
-  images = images_of scene
+  images = images_of strands scene
+
+  abbrev size : ℕ
+  size = tile.area.w * tile.area.h
 
   abbrev ranks_of_tile : List ℕ
   ranks_of_tile = contributors (boxes_of scene) scene.order tile.area
+
+  abbrev drawn : ℕ → List Pixel
+  drawn r = full_image scene.mode (shapes_of scene.shapes r) tile.area
 
   -- the leaves of a bracket are the order, without ranks that draw nothing in the tile
   record JoinsKept (bracket : Bracket) : Type 0 where
@@ -134,38 +146,45 @@ module _ (scene : SceneView) (ordered : IsOrdered scene) (t : ℕ) (tile : AreaT
   joins_kept bracket (inl e) = record { keeps = λ r. true; is = e ∙ sym (all_pass scene.order); blank = λ r l h. absurd (cc) }
   joins_kept bracket (inr e) = record { keeps = λ r. reaches_into (get_or (boxes_of scene) r None) tile.area; is = e; blank = out_of_box }
 
-  full : (r : ℕ) → r < scene.ranks → images r t ≡ full_image scene.mode (shapes_of scene.shapes r) tile.area
-  full r l = same_image scene r t l ∙ ap (image_at scene.mode (shapes_of scene.shapes r)) at
+  -- the interlaced image has at its position what the full one has at the pixel
+  full : (r i : ℕ) → r < scene.ranks → i < size → get_or (images r t) (place i size strands) None ≡ get_or (drawn r) i None
+  full r i l h =
+      let long = image_length scene.mode (shapes_of scene.shapes r) tile.area in
+      ap (λ image. get_or image (place i size strands) None) (same_image strands scene r t l ∙ ap (image_at strands scene.mode (shapes_of scene.shapes r)) at)
+      ∙ ap (λ n. get_or (interlaced strands (drawn r)) (place i n strands) None) (sym long)
+      ∙ interlaced_each strands some (drawn r) i (omega (arith, h, long))
 
   module _ (bracket : Bracket) (kept : JoinsKept bracket) where
-    pixel_is : scene.order ≡ range_with_len 0 scene.ranks → (i : ℕ) → value Depth images bracket t i ≡ nearest (column (full_images scene tile) i)
-    pixel_is ascending i =
-        value_nearest images bracket t i
-        ∙ ap (λ rs. nearest (map (λ r. get_or (images r t) i None) rs)) kept.is
-        ∙ ap (λ o. nearest (map (λ r. get_or (images r t) i None) (filter kept.keeps o))) ascending
-        ∙ nearest_of_all kept.keeps (λ r. get_or (images r t) i None) (λ r. get_or (full_image scene.mode (shapes_of scene.shapes r) tile.area) i None) scene.ranks
-        (λ r l. ap (λ image. get_or image i None) (full r l))
+    pixel_is : scene.order ≡ range_with_len 0 scene.ranks → (i : ℕ) → i < size → value Depth images bracket t (place i size strands) ≡ nearest (column (full_images scene tile) i)
+    pixel_is ascending i h =
+        value_nearest images bracket t (place i size strands)
+        ∙ ap (λ rs. nearest (map (λ r. get_or (images r t) (place i size strands) None) rs)) kept.is
+        ∙ ap (λ o. nearest (map (λ r. get_or (images r t) (place i size strands) None) (filter kept.keeps o))) ascending
+        ∙ nearest_of_all kept.keeps (λ r. get_or (images r t) (place i size strands) None) (λ r. get_or (drawn r) i None) scene.ranks
+        (λ r l. full r i l h)
         (λ r l e. ap (λ image. get_or image i None) (kept.blank r l e) ∙ no_pixel (tile.area.w * tile.area.h) i)
         ∙ ap nearest (fuse (λ r. full_image scene.mode (shapes_of scene.shapes r) tile.area) (λ image. get_or image i None) (range_with_len 0 scene.ranks))
 
     -- the images of the net and the full images agree on the bracket's leaves
-    agrees : (i : ℕ) → AllByRecursion (λ r. get_or (images r t) i None ≡ get_or (images_by_rank (full_images scene tile) r 0) i None) (leaves bracket)
-    agrees i =
-        let P : ℕ → Type 0 = λ r. get_or (images r t) i None ≡ get_or (images_by_rank (full_images scene tile) r 0) i None in
+    agrees : (i : ℕ) → i < size → AllByRecursion (λ r. get_or (images r t) (place i size strands) None ≡ get_or (images_by_rank (full_images scene tile) r 0) i None) (leaves bracket)
+    agrees i h =
+        let P : ℕ → Type 0 = λ r. get_or (images r t) (place i size strands) None ≡ get_or (images_by_rank (full_images scene tile) r 0) i None in
         let here : (r : ℕ) → r < scene.ranks → P r = λ r m.
-        ap (λ image. get_or image i None) (full r m ∙ ap (λ q. full_image scene.mode (shapes_of scene.shapes q) tile.area) (let z : r ≡ 0 + r = omega arith in z) ∙ sym (made_at (λ q. full_image scene.mode (shapes_of scene.shapes q) tile.area) 0 scene.ranks r [] m)) in
+        full r i m h ∙ ap (λ image. get_or image i None) (ap drawn (let z : r ≡ 0 + r = omega arith in z) ∙ sym (made_at drawn 0 scene.ranks r [] m)) in
         let known : All P scene.order = λ k d l. here (get_or scene.order k d) (ordered.once.below k d l) in
         subst (AllByRecursion P) (sym kept.is) (all_in_turn P (filter kept.keeps scene.order) (All-filter kept.keeps P scene.order known))
 
-    plain_is : (mode : Mode) → scene.mode ≡ mode → (i : ℕ) → value mode images bracket t i ≡ plain_pixel mode bracket (full_images scene tile) i
-    plain_is Depth m i = pixel_is (ordered.ascending m) i
-    plain_is Blend m i = same_value Blend images (images_by_rank (full_images scene tile)) bracket t 0 i (agrees i)
-    plain_is WideBlend m i = same_value WideBlend images (images_by_rank (full_images scene tile)) bracket t 0 i (agrees i)
+    plain_is : (mode : Mode) → scene.mode ≡ mode → (i : ℕ) → i < size → value mode images bracket t (place i size strands) ≡ plain_pixel mode bracket (full_images scene tile) i
+    plain_is Depth m i h = pixel_is (ordered.ascending m) i h
+    plain_is Blend m i h = same_value Blend images (images_by_rank (full_images scene tile)) bracket t 0 (place i size strands) i (agrees i h)
+    plain_is WideBlend m i h = same_value WideBlend images (images_by_rank (full_images scene tile)) bracket t 0 (place i size strands) i (agrees i h)
 
-    pixels_are : values scene.mode images t 0 (tile.area.w * tile.area.h) bracket ≡ plain_composite scene.mode bracket (full_images scene tile) (tile.area.w * tile.area.h)
+    pixels_are : restored (tile.area.w * tile.area.h) strands (values scene.mode images t 0 (tile.area.w * tile.area.h) bracket) ≡ plain_composite scene.mode bracket (full_images scene tile) (tile.area.w * tile.area.h)
     pixels_are =
-        ap (λ n. map (λ i. value scene.mode images bracket t i) (range_with_len 0 n)) (let z : tile.area.w * tile.area.h - 0 ≡ tile.area.w * tile.area.h = omega arith in z)
-        ∙ ap (λ f. map f (range_with_len 0 (tile.area.w * tile.area.h))) (fun_ext (plain_is scene.mode refl))
+        let joined_at : ℕ → Pixel = λ p. value scene.mode images bracket t p in
+        ap (λ n. restored size strands (map joined_at (range_with_len 0 n))) (let z : size - 0 ≡ size = omega arith in z)
+        ∙ restored_of joined_at size strands some
+        ∙ same_below (λ i. joined_at (place i size strands)) (plain_pixel scene.mode bracket (full_images scene tile)) 0 size (λ i l. plain_is scene.mode refl i (omega (arith, l)))
 
 tile_count : (f : AreaTile → List ℕ) (tiles : List AreaTile) → length (tile_ranks tiles (map f tiles)) ≡ length tiles
 tile_count f [] = refl
@@ -178,17 +197,17 @@ abbrev picture_by : SceneView → AreaTile × Bracket → DenseView
 picture_by scene x = record { w = x.0.area.w; h = x.0.area.h; pixels = plain_picture scene x.0 x.1 }
 
 -- what the close of the plan's net shows
-pub shown : (settings : Settings) (scene : SceneView) (plan : PlanView) (cap strands : ℕ) (pairs : List (ℕ × ℕ)) → IsOrdered scene → AreTiles (length scene.order) (scene_tiles scene) → IsPlanFor settings scene plan
-    → pictures_of (record { plan = plan; cap = cap; strands = strands; sides = map sides_of scene.tiles; pairs = pairs }) scene.mode (images_of scene) ≡ plain_pictures settings scene
-shown settings scene plan cap strands pairs ordered lawful is =
+pub shown : (settings : Settings) (scene : SceneView) (plan : PlanView) (cap strands : ℕ) (pairs : List (ℕ × ℕ)) → 1 ≤ strands → IsOrdered scene → AreTiles (length scene.order) (scene_tiles scene) → IsPlanFor settings scene plan
+    → pictures_of (record { plan = plan; cap = cap; strands = strands; sides = map sides_of scene.tiles; pairs = pairs }) scene.mode (images_of strands scene) ≡ plain_pictures settings scene
+shown settings scene plan cap strands pairs some ordered lawful is =
     let joins = rules_join_in_order settings scene.order (scene_tiles scene) lawful in
     let brackets = brackets_of settings scene in
-    let f : ℕ → DenseView = picture_of (hull_of scene plan cap strands pairs) scene.mode (images_of scene) in
+    let f : ℕ → DenseView = picture_of (hull_of scene plan cap strands pairs) scene.mode (images_of strands scene) in
     let many : length brackets ≡ length scene.tiles = joins.count ∙ tile_count (λ x. contributors (boxes_of scene) scene.order x.area) scene.tiles in
     ap (λ n. map f (range_with_len 0 n)) (length-map scene.tiles sides_of ∙ sym (zip_count scene.tiles brackets many))
     ∙ map_places f (picture_by scene) (zip scene.tiles brackets) 0 (λ t x at. ap f (let z : 0 + t ≡ t = omega arith in z) ∙ each t x.0 x.1 (both_at scene.tiles brackets t x at).0 (both_at scene.tiles brackets t x at).1)
   where
-    each : (t : ℕ) (tile : AreaTile) (bracket : Bracket) → slice_get scene.tiles t ≡ Some tile → slice_get (brackets_of settings scene) t ≡ Some bracket → picture_of (hull_of scene plan cap strands pairs) scene.mode (images_of scene) t ≡ picture_by scene (tile, bracket)
+    each : (t : ℕ) (tile : AreaTile) (bracket : Bracket) → slice_get scene.tiles t ≡ Some tile → slice_get (brackets_of settings scene) t ≡ Some bracket → picture_of (hull_of scene plan cap strands pairs) scene.mode (images_of strands scene) t ≡ picture_by scene (tile, bracket)
     each t tile bracket at bracket_at =
         let joins = rules_join_in_order settings scene.order (scene_tiles scene) lawful in
         let ranks = contributors (boxes_of scene) scene.order tile.area in
@@ -196,8 +215,8 @@ shown settings scene plan cap strands pairs ordered lawful is =
         let side = map_at sides_of scene.tiles t tile (0, 0) at in
         let size = ap (λ ns. get_or ns t 0) is.sizes ∙ map_at (λ (x : TileView). x.size) (scene_tiles scene) t (tile_with tile ranks) 0 here in
         let shows = ap (λ bs. get_or bs t Empty) is.brackets ∙ got (brackets_of settings scene) t bracket Empty bracket_at in
-        let kept = joins_kept scene ordered t tile at bracket (joins.joined t (tile_with tile ranks) bracket here bracket_at) in
-        ap (λ (s : ℕ × ℕ). record { w = s.0; h = s.1; pixels = values scene.mode (images_of scene) t 0 (get_or plan.tiles.sizes t 0) (get_or plan.brackets t Empty) }) side
-        ∙ ap (λ n. record { w = tile.area.w; h = tile.area.h; pixels = values scene.mode (images_of scene) t 0 n (get_or plan.brackets t Empty) }) size
-        ∙ ap (λ b. record { w = tile.area.w; h = tile.area.h; pixels = values scene.mode (images_of scene) t 0 (tile.area.w * tile.area.h) b }) shows
-        ∙ ap (λ ps. record { w = tile.area.w; h = tile.area.h; pixels = ps }) (pixels_are scene ordered t tile at bracket kept)
+        let kept = joins_kept strands some scene ordered t tile at bracket (joins.joined t (tile_with tile ranks) bracket here bracket_at) in
+        ap (λ (s : ℕ × ℕ). record { w = s.0; h = s.1; pixels = restored (get_or plan.tiles.sizes t 0) strands (values scene.mode (images_of strands scene) t 0 (get_or plan.tiles.sizes t 0) (get_or plan.brackets t Empty)) }) side
+        ∙ ap (λ n. record { w = tile.area.w; h = tile.area.h; pixels = restored n strands (values scene.mode (images_of strands scene) t 0 n (get_or plan.brackets t Empty)) }) size
+        ∙ ap (λ b. record { w = tile.area.w; h = tile.area.h; pixels = restored (tile.area.w * tile.area.h) strands (values scene.mode (images_of strands scene) t 0 (tile.area.w * tile.area.h) b) }) shows
+        ∙ ap (λ ps. record { w = tile.area.w; h = tile.area.h; pixels = ps }) (pixels_are strands some scene ordered t tile at bracket kept)

@@ -51,17 +51,17 @@ pub more_in_turn : {X : Type 0} (f : X → ℕ) (xs : List X) (i : ℕ) (x : X) 
 more_in_turn f xs i x w v l is = more f xs i x w v (take_more xs i x l ∙ ap (λ y. take i xs ++ y ∷ []) (sym is))
 
 -- there is an image for each rank
-pub image_count : (scene : SceneView) → length (rank_images scene) ≡ scene.ranks
-image_count scene = length-map (range_with_len 0 scene.ranks) (rank_image scene) ∙ length-range_with_len 0 scene.ranks
+pub image_count : (strands : ℕ) (scene : SceneView) → length (rank_images strands scene) ≡ scene.ranks
+image_count strands scene = length-map (range_with_len 0 scene.ranks) (rank_image strands scene) ∙ length-range_with_len 0 scene.ranks
 
-piece_count : (t : ℕ) (mode : Mode) (shapes : List Drawing) (tiles : List TileView) → length (pieces_from t mode shapes tiles) ≡ length tiles
-piece_count t mode shapes [] = refl
-piece_count t mode shapes (tile ∷ tiles) = ap suc (piece_count (suc t) mode shapes tiles)
+piece_count : (strands t : ℕ) (mode : Mode) (shapes : List Drawing) (tiles : List TileView) → length (pieces_from strands t mode shapes tiles) ≡ length tiles
+piece_count strands t mode shapes [] = refl
+piece_count strands t mode shapes (tile ∷ tiles) = ap suc (piece_count strands (suc t) mode shapes tiles)
 
-each_long : (scene : SceneView) (first n : ℕ) → All (λ image. length image ≡ length scene.tiles) (map (rank_image scene) (range_with_len first n))
-each_long scene first zero = All-nil (λ image. length image ≡ length scene.tiles)
-each_long scene first (suc n) = All-cons (λ image. length image ≡ length scene.tiles) (rank_image scene first) (map (rank_image scene) (range_with_len (first + 1) n)) (piece_count 0 scene.mode (shapes_of scene.shapes first) scene.tiles) (each_long scene (first + 1) n)
+each_long : (strands : ℕ) (scene : SceneView) (first n : ℕ) → All (λ image. length image ≡ length scene.tiles) (map (rank_image strands scene) (range_with_len first n))
+each_long strands scene first zero = All-nil (λ image. length image ≡ length scene.tiles)
+each_long strands scene first (suc n) = All-cons (λ image. length image ≡ length scene.tiles) (rank_image strands scene first) (map (rank_image strands scene) (range_with_len (first + 1) n)) (piece_count strands 0 scene.mode (shapes_of scene.shapes first) scene.tiles) (each_long strands scene (first + 1) n)
 
 -- each rank has an image of each tile
-pub images_long : (scene : SceneView) (images : List (List (Piece (List Pixel)))) (tiles : ℕ) → images ≡ rank_images scene → tiles ≡ length scene.tiles → All (λ image. length image ≡ tiles) images
-images_long scene images tiles e f = subst (λ n. All (λ image. length image ≡ n) images) (sym f) (subst (All (λ image. length image ≡ length scene.tiles)) (sym e) (each_long scene 0 scene.ranks))
+pub images_long : (strands : ℕ) (scene : SceneView) (images : List (List (Piece (List Pixel)))) (tiles : ℕ) → images ≡ rank_images strands scene → tiles ≡ length scene.tiles → All (λ image. length image ≡ tiles) images
+images_long strands scene images tiles e f = subst (λ n. All (λ image. length image ≡ n) images) (sym f) (subst (All (λ image. length image ≡ length scene.tiles)) (sym e) (each_long strands scene 0 scene.ranks))

@@ -15,6 +15,6 @@ image_weight image = sum_by (λ piece. weight_of piece.content) image
 abbrev pub images_weight : List (List (Piece (List Pixel))) → ℕ
 images_weight images = sum_by image_weight images
 
--- of all that the ranks of a scene draw
-abbrev pub scene_weight : SceneView → ℕ
-scene_weight scene = images_weight (rank_images scene)
+-- of all that the ranks of a scene draw, dealt out to the strands
+abbrev pub scene_weight : ℕ → SceneView → ℕ
+scene_weight strands scene = images_weight (rank_images strands scene)

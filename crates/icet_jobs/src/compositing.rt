@@ -15,7 +15,8 @@ use std::alloc::Global;
 use std::thread::Threads;
 
 /// How a scene is composited: the plan's settings, how many messages may wait on a pair of ranks, how
-/// many workers step the ranks, how many exchanges a rank may make in a turn, and the strands.
+/// many workers step the ranks, how many exchanges a rank may make in a turn, and to how many strands the
+/// pixels of images are dealt out.
 #[derive(Clone, Copy, Debug, PartialEq, Eq)]
 pub struct Way {
     pub settings: Settings,
@@ -25,17 +26,17 @@ pub struct Way {
     pub strands: u32,
 }
 
-/// What came of compositing a scene: the pictures, one per tile, and the weight of the images that the ranks drew: eight for
-/// each maximal run of drawn pixels, and eight for each drawn pixel.
+/// What came of compositing a scene: the pictures, one per tile, and the weight of the interlaced images that the ranks
+/// drew: eight for each maximal run of drawn pixels, and eight for each drawn pixel.
 #[derive(Drop)]
 pub struct Outcome {
     pub pictures: Pictures,
     pub weight: u64,
 }
 
-/// Composites a scene: makes the plan, draws each rank's images, moves them through a net over the
-/// wires, and hands out the plain composite of each tile. The wires' log grows by the plan's traffic,
-/// and each pair that was opened is closed.
+/// Composites a scene: makes the plan, draws each rank's images and interlaces them, moves them through a
+/// net over the wires, and hands out the plain composite of each tile, whatever the strands. The wires' log
+/// grows by the plan's traffic, and each pair that was opened is closed.
 ///
 /// # Errors
 ///
@@ -51,18 +52,18 @@ pub fn composite<W: Wires, G: Gate, R: Threads + Sync>(
     requires cap { 1 ≤ way.now.cap }
     requires workers { 1 ≤ way.now.workers }
     requires burst { 1 ≤ way.now.burst }
-    requires strands { way.now.strands ≡ 1 }
+    requires strands { 1 ≤ way.now.strands }
     requires split { 2 ≤ way.now.settings.k }
     ensures pictures { IfOk result (λ outcome. outcome.pictures ≡ plain_pictures way.now.settings scene.now) }
-    ensures weight { IfOk result (λ outcome. outcome.weight ≡ scene_weight scene.now) }
-    ensures log { OnOk result (W.log wires.new ≡ W.log wires.old ++ composite_traffic way.now.settings scene.now) }
+    ensures weight { IfOk result (λ outcome. outcome.weight ≡ scene_weight way.now.strands scene.now) }
+    ensures log { OnOk result (W.log wires.new ≡ W.log wires.old ++ composite_traffic way.now.settings way.now.strands scene.now) }
     ensures owed { OnOk result (W.owed wires.new ≡ W.owed wires.old) }
     ensures kept { OnErr result (W.log wires.new ≡ W.log wires.old) }
 {
     let tiles = scene.layout.count();
     let _ranks = scene.ranks();
     let plan = plan_of(alloc, scene, &way.settings)?;
-    let images = images_of(alloc, scene)?;
+    let images = images_of(alloc, scene, way.strands)?;
     let weight = weigh(images.as_slice(), tiles);
     let pictures = run_net(
         rt,

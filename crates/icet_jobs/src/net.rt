@@ -13,7 +13,7 @@ use icet_tiles::Layout;
 use std::alloc::Global;
 use std::thread::Threads;
 
-/// Opens a net for the plan and these images, drives it to its end, and closes it: the pictures, one per tile.
+/// Opens a net for the plan and these interlaced images, drives it to its end, and closes it: the pictures, one per tile.
 /// The wires' log grows by the plan's traffic, and each pair that was opened is closed.
 ///
 /// # Errors
@@ -35,7 +35,7 @@ pub fn run_net<W: Wires, G: Gate, R: Threads + Sync>(
     requires cap { 1 ≤ way.now.cap }
     requires workers { 1 ≤ way.now.workers }
     requires burst { 1 ≤ way.now.burst }
-    requires strands { way.now.strands ≡ 1 }
+    requires strands { 1 ≤ way.now.strands }
     ensures pictures { IfOk result (λ p. p ≡ pictures_of (hull_for plan way.now.cap way.now.strands layout.now) mode (piece_images images.items)) }
     ensures log { OnOk result (W.log wires.new ≡ W.log wires.old ++ traffic mode plan (piece_images images.items)) }
     ensures owed { OnOk result (W.owed wires.new ≡ W.owed wires.old) }

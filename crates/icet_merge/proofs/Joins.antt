@@ -1,9 +1,10 @@
 -- Joining lists of pixels stretch by stretch.
-use Rattle.std.proofs.Common.{◌≡◌, ℕ, zero, suc, ◌+◌, ◌<◌, ◌≤◌, List, [], ◌∷◌, ◌++◌, length, take, drop, map, replicate, get_or, Some, None, refl, sym, ◌∙◌, ap, arith, append_assoc, length-append}
-use Rattle.std.proofs.lemmas.List.{map-append, length-map, length-replicate, length-take-le, take-append-drop, take_more}
+use Rattle.std.proofs.Common.{◌≡◌, ℕ, zero, suc, ◌+◌, ◌<◌, ◌≤◌, List, [], ◌∷◌, ◌++◌, length, take, drop, map, replicate, Some, None, refl, sym, ◌∙◌, ap, arith, append_assoc, length-append}
+use Rattle.std.proofs.lemmas.List.{map-append, length-map, length-replicate, length-take-le, take-append-drop}
 use Rattle.std.proofs.Math.Seq.{take-append-add, drop-append-add}
 use Rattle.icet_model.specs.declared.names.Mode.{Mode}
-use Rattle.icet_model.specs.Pixel.{Pixel, FragmentView, joined}
+use Rattle.icet_model.specs.Pixel.{Pixel, FragmentView, joined, joined_fragments}
+use Rattle.icet_sparse.specs.Joined.{joined_places}
 use Rattle.icet_merge.specs.Merge.{zip_joined}
 
 -- the pixels of fragments
@@ -64,13 +65,11 @@ module _ (mode : Mode) where
       let joined_all : zip_joined mode a0 w0 ≡ take b w0 ++ (zip_joined mode (drawn ds) now ++ zip_joined mode a1 later) = ap (λ l. zip_joined mode l w0) (a ∙ append_assoc (blank b) (drawn ds) a1) ∙ ap (zip_joined mode (blank b ++ (drawn ds ++ a1))) (sym parts) ∙ zip_append (blank b) (drawn ds ++ a1) (take b w0) (now ++ later) ends ∙ rw (front_blank b (take b w0) (sym (length-take-le b w0 (omega arith))), zip_append (drawn ds) a1 now later pairs) in
       rw (p, joined_all) (simp append_assoc)
 
-  -- one more pair of drawn pixels
-  pub drawn_more : (fs gs : List FragmentView) (i : ℕ) (f g : FragmentView) → i < length fs → i < length gs → f ≡ get_or fs i f → g ≡ get_or gs i g → zip_joined mode (drawn (take (i + 1) fs)) (drawn (take (i + 1) gs)) ≡ zip_joined mode (drawn (take i fs)) (drawn (take i gs)) ++ joined mode (Some f) (Some g) ∷ []
-  drawn_more fs gs i f g h k e d =
-      let front : drawn (take (i + 1) fs) ≡ drawn (take i fs) ++ Some f ∷ [] = ap drawn (take_more fs i f h ∙ ap (λ x. take i fs ++ x ∷ []) (sym e)) ∙ map-append (λ x. Some x) (take i fs) (f ∷ []) in
-      let back : drawn (take (i + 1) gs) ≡ drawn (take i gs) ++ Some g ∷ [] = ap drawn (take_more gs i g k ∙ ap (λ x. take i gs ++ x ∷ []) (sym d)) ∙ map-append (λ x. Some x) (take i gs) (g ∷ []) in
-      let size : length (drawn (take i fs)) ≡ length (drawn (take i gs)) = omega (arith, length-map (take i fs) (λ (x : FragmentView). Some x), length-map (take i gs) (λ (x : FragmentView). Some x), length-take-le i fs (omega arith), length-take-le i gs (omega arith)) in
-      rw (front, back) (zip_append (drawn (take i fs)) (Some f ∷ []) (drawn (take i gs)) (Some g ∷ []) size)
+  -- drawn pixels joined place by place are drawn
+  pub joined_drawn : (fs gs : List FragmentView) → zip_joined mode (drawn fs) (drawn gs) ≡ drawn (joined_places mode fs gs)
+  joined_drawn [] gs = refl
+  joined_drawn (f ∷ fs) [] = refl
+  joined_drawn (f ∷ fs) (g ∷ gs) = ap (λ l. Some (joined_fragments mode f g) ∷ l) (joined_drawn fs gs)
 
 -- how many pixels a stretch and what is behind it have
 pub passed_length : (b : ℕ) (ds : List FragmentView) (later : List Pixel) → length (blank b ++ drawn ds ++ later) ≡ b + length ds + length later

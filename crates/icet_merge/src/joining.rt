@@ -2,20 +2,22 @@ ghost use Rattle.std.specs.Prelude.{◌≡◌, ℕ, List, ◌+◌, ◌-◌, ◌<
 ghost use Rattle.icet_merge.specs.Merge.{zip_joined};
 
 use icet_base::{Mode, NoMemory};
-use icet_pixel::{Fragment, join};
+use icet_pixel::Fragment;
 use icet_sparse::{Sparse, Strip, Walk};
 use std::alloc::Global;
 
 /// The piece whose pixel at each position is that of `front` joined in front of that of `back`. It goes
-/// run by run: where one of them is blank, the other's run is taken over as a whole. Condition: both
-/// have the same tile, `lo` and `hi`.
+/// run by run: where one of them is blank, the other's run is taken over as a whole. Memory for all drawn pixels of both
+/// is reserved at once. Condition: both have the same tile, `lo` and `hi`.
 pub fn merge(alloc: Global, mode: Mode, front: &Sparse, back: &Sparse) -> Result<Sparse, NoMemory>
     requires tile { front.now.tile ≡ back.now.tile }
     requires lo { front.now.lo ≡ back.now.lo }
     requires hi { front.now.hi ≡ back.now.hi }
     ensures { IfOk result (λ s. s ≡ record { tile = front.now.tile; lo = front.now.lo; hi = front.now.hi; content = zip_joined mode front.now.content back.now.content }) }
 {
-    let mut pixels = Strip::new(alloc);
+    let most = (front.hi() - front.lo()) as usize;
+    let drawn = front.drawn() as usize + back.drawn() as usize;
+    let mut pixels = Strip::with_room(alloc, drawn.min(most))?;
     let mut above = front.walk();
     let mut below = back.walk();
     let mut left = front.hi() - front.lo();
@@ -25,7 +27,7 @@ pub fn merge(alloc: Global, mode: Mode, front: &Sparse, back: &Sparse) -> Result
         join_onto(&mut pixels, mode, stretch.drawn, &mut below)?;
         left -= stretch.len();
     }
-    Ok(Sparse::from_strip(front.tile(), front.lo(), front.hi(), pixels))
+    Sparse::from_strip(front.tile(), front.lo(), front.hi(), pixels)
 }
 
 /// Puts drawn pixels at the end, joined in front of the next ones of a walk, and walks over these.
@@ -47,25 +49,8 @@ fn join_onto(
         let (alone, behind) = rest.split_at(stretch.blank as usize);
         let (both, later) = behind.split_at(stretch.drawn.len());
         pixels.push_all(alone)?;
-        join_drawn(pixels, mode, both, stretch.drawn)?;
+        pixels.push_joined(mode, both, stretch.drawn)?;
         rest = later;
-    }
-    Ok(())
-}
-
-/// Puts drawn pixels at the end, joined in front of as many others.
-fn join_drawn(
-    pixels: &mut Strip,
-    mode: Mode,
-    front: &[Fragment],
-    back: &[Fragment],
-) -> Result<(), NoMemory>
-    requires room { length pixels.old + length front.now < 2 ^ 32 }
-    requires size { length front.now ≡ length back.now }
-    ensures { OnOk result (pixels.new ≡ pixels.old ++ zip_joined mode (map Some front.now) (map Some back.now)) }
-{
-    for i in 0..front.len() {
-        pixels.push_pixel(join(mode, Some(front[i]), Some(back[i])))?;
     }
     Ok(())
 }

@@ -20,6 +20,7 @@ use Rattle.icet_model.specs.Ports.{by_peer, messages_to, at_list}
 use Rattle.icet_model.specs.Traffic.{pixel_messages, traffic}
 use Rattle.icet_model.specs.Wires.{Pairing, PortView}
 use Rattle.icet_collect.specs.Collect.{CanvasView, HasWanted, blank_canvas}
+use Rattle.icet_interlace.specs.Interlace.{restored}
 use Rattle.icet_rank.specs.Moves.{port_to}
 use Rattle.icet_rank.specs.Machine.{MachineView, IsDone}
 use Rattle.icet_plan.proofs.Headings.{sent_passed, used_passed}
@@ -225,8 +226,8 @@ module _ (hull : HullView) (ms : List MachineView) (hull_is : IsHull hull) (hull
     shows_pictures =
         map-map (shown_on wanted) (λ t. blank_canvas t (sides_at hull.sides t).0 (sides_at hull.sides t).1 hull.strands) (range_with_len 0 (length hull.sides))
         ∙ same_map (λ t. shown_on wanted (blank_canvas t (sides_at hull.sides t).0 (sides_at hull.sides t).1 hull.strands)) (picture_of hull (mode_of ms) (images_of ms)) (range_with_len 0 (length hull.sides)) (λ t.
-        ap (λ n. record { w = (sides_at hull.sides t).0; h = (sides_at hull.sides t).1; pixels = map (wanted t) (range_with_len 0 n) })
-        (let e = size_of hull.plan.tiles.sizes hull.sides hull_is.sides t in e ∙ (let z : get_or hull.plan.tiles.sizes t 0 ≡ get_or hull.plan.tiles.sizes t 0 - 0 = omega arith in z)))
+        ap (λ n. record { w = (sides_at hull.sides t).0; h = (sides_at hull.sides t).1; pixels = restored n hull.strands (map (wanted t) (range_with_len 0 n)) }) (size_of hull.plan.tiles.sizes hull.sides hull_is.sides t)
+        ∙ ap (λ n. record { w = (sides_at hull.sides t).0; h = (sides_at hull.sides t).1; pixels = restored (get_or hull.plan.tiles.sizes t 0) hull.strands (map (wanted t) (range_with_len 0 n)) }) (let z : get_or hull.plan.tiles.sizes t 0 ≡ get_or hull.plan.tiles.sizes t 0 - 0 = omega arith in z))
 
     showable : AllByRecursion (IsShowable kepts hull.plan.tiles) (blank_canvases hull.sides hull.strands)
     showable = all_over (IsShowable kepts hull.plan.tiles) (λ t. blank_canvas t (sides_at hull.sides t).0 (sides_at hull.sides t).1 hull.strands) 0 (length hull.sides) (λ t l.

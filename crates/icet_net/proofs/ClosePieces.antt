@@ -7,8 +7,9 @@ use Rattle.icet_model.specs.Pixel.{Pixel, DenseView}
 use Rattle.icet_model.specs.Run.{Piece}
 use Rattle.icet_model.specs.Plan.{has_place}
 use Rattle.icet_collect.specs.Collect.{CanvasView, IsCanvas, IsFree, IsFull, Places, Shows, HasWanted, blank_canvas}
-use Rattle.icet_collect.proofs.Filling.{shows_blank, shows_more, is_free, is_full, shown}
-use Rattle.icet_net.specs.CloseSteps.{AreOnce, AreWanted, ShowsFirst, kept_for}
+use Rattle.icet_collect.proofs.Filling.{ArePlaced, shows_blank, shows_more, is_free, is_full, shown}
+use Rattle.icet_interlace.specs.Interlace.{restored}
+use Rattle.icet_net.specs.CloseSteps.{AreOnce, AreWanted, ShowsFirst, kept_for, picture_on}
 use Rattle.icet_model.proofs.Lists.{all_at, any_last}
 
 abbrev Pieces : Type 0
@@ -42,21 +43,19 @@ most_once : (t n : ℕ) (ps : Pieces) → AreOnce t n ps → (i : ℕ) → lengt
 most_once t n ps o i = ⊎_elim (λ (h : i < n). let e = o.once i h in omega (arith, e)) (λ (h : n ≤ i). let e = none_past t n i ps o.inside h in omega (arith, e)) (cases_lt i n)
 
 module _ (t n k : ℕ) (kept : Pieces) (old c : CanvasView) (first : ShowsFirst t k kept old c) where
-  abbrev own : ℕ → Pixel
-  own i = get_or c.pixels i None
-
-  -- a canvas shows its own pixels
-  shows_own : Shows own c (take k kept)
-  shows_own = record { placed = λ i. first.placed i ∙ ap (λ x. list_any (has_place x i) (take k kept)) (sym first.tile); pixels = λ i e. refl }
+  -- the first pieces are placed
+  placed_first : ArePlaced c (take k kept)
+  placed_first i = first.placed i ∙ ap (λ x. list_any (has_place x i) (take k kept)) (sym first.tile)
 
   pub free_at : (d : Piece (List Pixel)) → AreOnce t n kept → k < length kept → IsFree c (get_or kept k d)
-  free_at d o l = is_free own c (take k kept) (drop (suc k) kept) (get_or kept k d) shows_own (λ i. let m = most_once t n kept o i in let e = ap (λ x. length (filter (has_place x i) (take k kept ++ get_or kept k d ∷ drop (suc k) kept))) first.tile in let f = ap (λ ps. length (filter (has_place t i) ps)) (parted kept k d l) in omega (arith, m, e, f))
+  free_at d o l = is_free c (take k kept) (drop (suc k) kept) (get_or kept k d) placed_first (λ i. let m = most_once t n kept o i in let e = ap (λ x. length (filter (has_place x i) (take k kept ++ get_or kept k d ∷ drop (suc k) kept))) first.tile in let f = ap (λ ps. length (filter (has_place t i) ps)) (parted kept k d l) in omega (arith, m, e, f))
 
   pub placed_more : (new : CanvasView) (d : Piece (List Pixel)) → k < length kept → (get_or kept k d).tile ≡ t → Places c new (get_or kept k d) → ShowsFirst t (k + 1) kept old new
   placed_more new d l is places = record {
     tile = places.tile ∙ first.tile;
     w = places.w ∙ first.w;
     h = places.h ∙ first.h;
+    strands = places.strands ∙ first.strands;
     placed = λ i.
         places.placed i
         ∙ (ap (λ x. has_place x i (get_or kept k d) || get_or c.placed i false) first.tile
@@ -77,21 +76,24 @@ module _ (t n k : ℕ) (kept : Pieces) (old c : CanvasView) (first : ShowsFirst 
     tile = first.tile;
     w = first.w;
     h = first.h;
+    strands = first.strands;
     placed = λ i. first.placed i ∙ skip_any t i d l n;
     shows = λ wanted a. let s = first.shows wanted a in record { placed = λ i. s.placed i ∙ skip_any c.tile i d l (λ e. n (e ∙ first.tile)); pixels = s.pixels };
   }
 
   pub full_at : AreOnce t (old.w * old.h) kept → length kept ≤ k → IsFull c
   full_at o l =
-      is_full own c (take k kept) shows_own (λ i h.
+      is_full c (take k kept) placed_first (λ i h.
       ap (λ x. length (filter (has_place x i) (take k kept))) first.tile
       ∙ (ap (λ ps. length (filter (has_place t i) ps)) (whole_list kept k l)
       ∙ o.once i (subst (λ x. i < x) (let e : c.w * c.h ≡ old.w * old.h = ap (λ x. x * c.h) first.w ∙ ap (λ x. old.w * x) first.h in e) h)))
 
-  pub picture_is : AreOnce t (old.w * old.h) kept → length kept ≤ k → IsCanvas c → (result : DenseView) → result ≡ record { w = c.w; h = c.h; pixels = c.pixels } → (wanted : ℕ → Pixel) → AreWanted t wanted kept → result ≡ record { w = old.w; h = old.h; pixels = map wanted (range_with_len 0 (old.w * old.h)) }
+  pub picture_is : AreOnce t (old.w * old.h) kept → length kept ≤ k → IsCanvas c → (result : DenseView) → result ≡ record { w = c.w; h = c.h; pixels = c.pixels } → (wanted : ℕ → Pixel) → AreWanted t wanted kept → result ≡ picture_on old wanted
   picture_is o l can result is wanted a =
       let e : c.w * c.h ≡ old.w * old.h = ap (λ x. x * c.h) first.w ∙ ap (λ x. old.w * x) first.h in
-      let p : c.pixels ≡ map wanted (range_with_len 0 (old.w * old.h)) = shown wanted c (take k kept) (old.w * old.h) (first.shows wanted a) (full_at o l) (sym e) (can.size ∙ e) in
+      let p : c.pixels ≡ restored (old.w * old.h) old.strands (map wanted (range_with_len 0 (old.w * old.h))) =
+      shown wanted c (take k kept) (old.w * old.h) can.strands (first.shows wanted a) (full_at o l) (sym e) (can.size ∙ e)
+      ∙ ap (λ s. restored (old.w * old.h) s (map wanted (range_with_len 0 (old.w * old.h)))) first.strands in
       is ∙ (λ i. record { w = first.w i; h = first.h i; pixels = p i })
 
 blank_first : (t : ℕ) (kept : Pieces) (w h strands : ℕ) → ShowsFirst t 0 kept (blank_canvas t w h strands) (blank_canvas t w h strands)
@@ -99,6 +101,7 @@ blank_first t kept w h strands = record {
   tile = refl;
   w = refl;
   h = refl;
+  strands = refl;
   placed = (shows_blank (λ i. None) t w h strands).placed;
   shows = λ wanted a. shows_blank wanted t w h strands;
 }

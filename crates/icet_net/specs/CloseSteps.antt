@@ -9,6 +9,7 @@ use Rattle.icet_model.specs.Ports.{messages_to}
 use Rattle.icet_model.specs.Traffic.{PairTraffic, IsTakenPair}
 use Rattle.icet_model.specs.Wires.{PortView}
 use Rattle.icet_collect.specs.Collect.{CanvasView, Shows, HasWanted, blank_canvas}
+use Rattle.icet_interlace.specs.Interlace.{restored}
 use Rattle.icet_rank.specs.Moves.{port_to}
 use Rattle.icet_rank.specs.Machine.{PartsView}
 use Rattle.icet_net.specs.Opening.{ports_of}
@@ -62,6 +63,7 @@ pub record ShowsFirst (t n : ℕ) (kept : List (Piece (List Pixel))) (old c : Ca
   pub tile : c.tile ≡ t
   pub w : c.w ≡ old.w
   pub h : c.h ≡ old.h
+  pub strands : c.strands ≡ old.strands
   pub placed : (i : ℕ) → get_or c.placed i false ≡ list_any (has_place t i) (take n kept)
   pub shows : (wanted : ℕ → Pixel) → AreWanted t wanted kept → Shows wanted c (take n kept)
 
@@ -79,9 +81,12 @@ pub record IsShowable (kepts : List (List (Piece (List Pixel)))) (tiles : Tiles)
 abbrev pub AreAllWanted : List (List (Piece (List Pixel))) → Tiles → (ℕ → ℕ → Pixel) → Type 0
 AreAllWanted kepts tiles wanted = (t : ℕ) → t < length tiles.sizes → AreWanted t (wanted t) (kept_for kepts tiles.displays t)
 
--- the picture of a canvas's size with these pixels
+-- the picture of a canvas's size and strands with these pixels, by position
+abbrev pub picture_on : CanvasView → (ℕ → Pixel) → DenseView
+picture_on c wanted = record { w = c.w; h = c.h; pixels = restored (c.w * c.h) c.strands (map wanted (range_with_len 0 (c.w * c.h))) }
+
 abbrev pub shown_on : (ℕ → ℕ → Pixel) → CanvasView → DenseView
-shown_on wanted c = record { w = c.w; h = c.h; pixels = map (wanted c.tile) (range_with_len 0 (c.w * c.h)) }
+shown_on wanted c = picture_on c (wanted c.tile)
 
 -- the outboxes, the inboxes and the kept pieces of what all machines hand out, where the ports stand in
 -- reverse order
@@ -108,7 +113,7 @@ ArePictures parts tiles canvases pictures = (wanted : ℕ → ℕ → Pixel) →
 
 -- the picture of one canvas, whatever pixels the kept pieces have
 abbrev pub IsPicture : ℕ → List (Piece (List Pixel)) → CanvasView → DenseView → Type 0
-IsPicture tile kept c picture = (wanted : ℕ → Pixel) → AreWanted tile wanted kept → picture ≡ record { w = c.w; h = c.h; pixels = map wanted (range_with_len 0 (c.w * c.h)) }
+IsPicture tile kept c picture = (wanted : ℕ → Pixel) → AreWanted tile wanted kept → picture ≡ picture_on c wanted
 
 -- the port to each other peer is as before
 abbrev pub KeepOthers : {P : Type 0} → ℕ → List (ℕ × P) → List (ℕ × P) → Type 0

@@ -6,17 +6,18 @@ use Rattle.icet_model.specs.declared.bracket.Bracket.TheVariants.{Empty}
 use Rattle.icet_model.specs.Pixel.{Pixel, DenseView}
 use Rattle.icet_model.specs.Bracket.{Images}
 use Rattle.icet_model.specs.Plan.{values}
+use Rattle.icet_interlace.specs.Interlace.{restored}
 use Rattle.icet_rank.specs.Machine.{MachineView, IsDone}
 use Rattle.icet_net.specs.Net.{HullView, sides_at}
 use Rattle.icet_net.specs.Ranks.{machine_at, mode_of, images_of}
 use Rattle.icet_model.specs.Traffic.{PairTraffic, traffic}
 
--- the picture of a tile: at each position the value of the tile's bracket
+-- the picture of a tile: each pixel is the value of the tile's bracket at its position
 abbrev pub picture_of : HullView → Mode → Images → ℕ → DenseView
 picture_of hull mode images t = record {
   w = (sides_at hull.sides t).0;
   h = (sides_at hull.sides t).1;
-  pixels = values mode images t 0 (get_or hull.plan.tiles.sizes t 0) (get_or hull.plan.brackets t Empty);
+  pixels = restored (get_or hull.plan.tiles.sizes t 0) hull.strands (values mode images t 0 (get_or hull.plan.tiles.sizes t 0) (get_or hull.plan.brackets t Empty));
 }
 
 -- one picture a tile

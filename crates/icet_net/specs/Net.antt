@@ -49,7 +49,7 @@ pub record AreSides (sizes : List ℕ) (sides : List (ℕ × ℕ)) : Type 0 wher
 pub record IsHull (hull : HullView) : Type 0 where
   pub plan : IsPlan hull.plan
   pub cap : 1 ≤ hull.cap
-  pub strands : hull.strands ≡ 1
+  pub strands : 1 ≤ hull.strands
   pub sides : AreSides hull.plan.tiles.sizes hull.sides
   pub pairs : hull.pairs ≡ pairs_of hull.plan
 

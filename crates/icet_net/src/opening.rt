@@ -19,8 +19,8 @@ use std::alloc::Global;
 /// Opens a net for a plan: a pair of ports for each ordered pair of ranks that the plan uses, with the
 /// plan's number of messages on it, and a machine for each rank, at the start of its program.
 /// Conditions: the plan's tiles have the layout's number, sizes and display ranks and at most
-/// 67,108,864 pixels each; there is one image per rank, of whole tiles; `cap` is at least 1, and there
-/// is one strand.
+/// 67,108,864 pixels each; there is one image per rank, of whole tiles, with the pixels dealt out to the
+/// strands; `cap` and `strands` are at least 1.
 ///
 /// # Errors
 ///
@@ -37,7 +37,7 @@ pub fn open_net<W: Wires>(
 ) -> Result<(Hull<W>, Vec<RankMachine<W::In, W::Out>>), NoMemory>
     requires fits { CanOpen plan layout.now images.items }
     requires cap { 1 ≤ cap }
-    requires strands { strands ≡ 1 }
+    requires strands { 1 ≤ strands }
     ensures hull { IfOk result (λ net. net.0 ≡ hull_for plan cap strands layout.now) }
     ensures hulls { IfOk result (λ net. AreHulls net.0 net.1.items) }
     ensures opened { IfOk result (λ net. AreOpenedWith mode images.items net.1.items) }
@@ -81,7 +81,7 @@ fn sides_in(alloc: Global, layout: &Layout) -> Result<Vec<(u32, u32)>, NoMemory>
 fn canvases_of(alloc: Global, sides: &[(u32, u32)], strands: u32) -> Result<Vec<Canvas>, NoMemory>
     requires few { length sides.now < 2 ^ 32 }
     requires small { AllByRecursion (λ s. s.0 * s.1 ≤ MAX_RANK_PIXELS) sides.now }
-    requires strands { strands ≡ 1 }
+    requires strands { 1 ≤ strands }
     ensures { IfOk result (λ canvases. canvases.items ≡ blank_canvases sides.now strands) }
 {
     let mut canvases = Vec::new(alloc);

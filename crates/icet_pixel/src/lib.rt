@@ -8,4 +8,4 @@ pub mod pixel;
 
 pub use dense::Dense;
 pub use fragment::Fragment;
-pub use pixel::{Pixel, finish, join, over};
+pub use pixel::{Pixel, finish, join, join_fragments, over};

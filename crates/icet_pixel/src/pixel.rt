@@ -60,7 +60,9 @@ pub fn join(mode: Mode, front: Pixel, back: Pixel) -> Pixel
     }
 }
 
-fn join_fragments(mode: Mode, front: Fragment, back: Fragment) -> Fragment
+/// The fragment that shows where `front` stands before `back`: by depth the nearer one and the front at equal depth, by
+/// blending the front over the back.
+pub fn join_fragments(mode: Mode, front: Fragment, back: Fragment) -> Fragment
     ensures { result ≡ joined_fragments mode front back }
 {
     match mode {

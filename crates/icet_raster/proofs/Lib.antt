@@ -6,6 +6,8 @@ pub mod EdgeValues
 pub mod FullImages
 pub mod Hulls
 pub mod Outside
+pub mod SeenParts
+pub mod ShareSteps
 pub mod SignCases
 pub mod SignedProducts
 pub mod StretchesDrawn

@@ -8,14 +8,14 @@ use Rattle.std.proofs.lemmas.Nat.{div-mul-add, div_below, le-div, mod-mul-add, m
 use Rattle.icet_raster.specs.Shapes.{IsPixelAt}
 use Rattle.icet_model.specs.declared.names.Mode.{Mode}
 use Rattle.icet_model.specs.Pixel.{FragmentView, Pixel}
-use Rattle.icet_scene_model.specs.Triangles.{Triangle, Weights, centre, covers, mean, mixed, shaded, weights}
+use Rattle.icet_scene_model.specs.Triangles.{Triangle, centre, covers, shaded}
 use Rattle.icet_scene_model.specs.Raster.{Drawing, Point, Tri, Span, drawn, drawn_over, full_image, gives}
 use Rattle.icet_model.specs.Tiles.{Area}
 use Rattle.icet_model.specs.declared.names.Rect.{Rect}
 use Rattle.icet_scene_model.specs.Boxes.{HasPixel, bounds}
 use Rattle.icet_raster.proofs.CoveredInFrame.{covered_in_box}
 use Rattle.icet_raster.specs.declared.cut.Part.{Part}
-use Rattle.icet_raster.specs.Stretches.{Draws, IsSeenWithin, given}
+use Rattle.icet_raster.specs.Stretches.{Draws, IsCovered, IsSeenWithin, given}
 use Rattle.icet_raster.proofs.Outside.{span_gives}
 use Rattle.icet_raster.proofs.FullImages.{drawn_more, over_none, wide}
 
@@ -142,29 +142,53 @@ given-covered : (t : Triangle) (area : Area) (k x y : ℕ) → IsPixelAt area k 
 given-covered t area k x y at c =
     ap (λ i. gives (Tri t) i (area.y + k / area.w)) at.column ∙ ap (λ i. gives (Tri t) x i) at.row ∙ ap (λ b. cond b (Some (shaded t (centre x y))) None) c
 
-pub at-uncovered : (mode : Mode) (t : Triangle) (area : Area) (k x y : ℕ) (old : List Pixel) → IsPixelAt area k x y → covers t (centre x y) ≡ false → Draws mode (Tri t) area k (k + 1) old old
-at-uncovered mode t area k x y old at c =
-    draws-stays mode (Tri t) area k old
-    (ap (λ p. drawn_over mode (get_or old k None) p)
-    (ap (λ i. gives (Tri t) i (area.y + k / area.w)) at.column ∙ ap (λ i. gives (Tri t) x i) at.row ∙ ap (λ b. cond b (Some (shaded t (centre x y))) None) c)
-    ∙ over_none mode (get_or old k None))
-
-pub at-hidden : (mode : Mode) (t : Triangle) (area : Area) (k x y : ℕ) (old : List Pixel) (v : Weights) (before : Pixel) (d : ℕ) → IsPixelAt area k x y → covers t (centre x y) ≡ true → v ≡ weights t (centre x y)
-    → before ≡ get_or old k None → d ≡ mean v t.a.paint.z t.b.paint.z t.c.paint.z → ((f : FragmentView) → f.z ≡ d → drawn_over mode before (Some f) ≡ before) → Draws mode (Tri t) area k (k + 1) old old
-at-hidden mode t area k x y old v before d at c e b z h =
+pub at-hidden : (mode : Mode) (t : Triangle) (area : Area) (k x y : ℕ) (old : List Pixel) (before : Pixel) (f : FragmentView) → IsPixelAt area k x y → covers t (centre x y) ≡ true
+    → before ≡ get_or old k None → f ≡ shaded t (centre x y) → drawn_over mode before (Some f) ≡ before → Draws mode (Tri t) area k (k + 1) old old
+at-hidden mode t area k x y old before f at c b m h =
     draws-stays mode (Tri t) area k old
     (ap (λ p. drawn_over mode (get_or old k None) p) (given-covered t area k x y at c)
-    ∙ subst (λ p. drawn_over mode p (Some (shaded t (centre x y))) ≡ p) b (h (shaded t (centre x y)) (sym (z ∙ ap (λ w. mean w t.a.paint.z t.b.paint.z t.c.paint.z) e))))
+    ∙ subst (λ p. drawn_over mode p (Some (shaded t (centre x y))) ≡ p) b (subst (λ g. drawn_over mode before (Some g) ≡ before) m h))
 
-pub at-shown : (mode : Mode) (t : Triangle) (area : Area) (k x y : ℕ) (old : List Pixel) (v : Weights) (before : Pixel) (f : FragmentView) (p : Pixel) → k < length old → IsPixelAt area k x y → covers t (centre x y) ≡ true → v ≡ weights t (centre x y)
-    → before ≡ get_or old k None → f ≡ mixed v t.a.paint t.b.paint t.c.paint → p ≡ drawn_over mode before (Some f) → Draws mode (Tri t) area k (k + 1) old (set old k p)
-at-shown mode t area k x y old v before f p l at c e b m h =
-    let same : f ≡ shaded t (centre x y) = m ∙ ap (λ w. mixed w t.a.paint t.b.paint t.c.paint) e in
+pub at-shown : (mode : Mode) (t : Triangle) (area : Area) (k x y : ℕ) (old : List Pixel) (before : Pixel) (f : FragmentView) (p : Pixel) → k < length old → IsPixelAt area k x y → covers t (centre x y) ≡ true
+    → before ≡ get_or old k None → f ≡ shaded t (centre x y) → p ≡ drawn_over mode before (Some f) → Draws mode (Tri t) area k (k + 1) old (set old k p)
+at-shown mode t area k x y old before f p l at c b m h =
     draws-set mode (Tri t) area k old p l
     (h
-    ∙ ap (λ g. drawn_over mode before (Some g)) same
+    ∙ ap (λ g. drawn_over mode before (Some g)) m
     ∙ ap (λ q. drawn_over mode q (Some (shaded t (centre x y)))) b
     ∙ ap (λ q. drawn_over mode (get_or old k None) q) (sym (given-covered t area k x y at c)))
+
+-- columns of a row that aren't covered
+pub row-uncovered : (mode : Mode) (t : Triangle) (area : Area) (row from to : ℕ) (old : List Pixel) → to ≤ area.w → ((k : ℕ) → from ≤ k → k < to → covers t (centre (area.x + k) (area.y + row)) ≡ false) → Draws mode (Tri t) area (row * area.w + from) (row * area.w + to) old old
+row-uncovered mode t area row from to old l h =
+    draws-none mode (Tri t) area (row * area.w + from) (row * area.w + to) old (λ k m n.
+    let j = k - row * area.w in
+    let e : k ≡ row * area.w + j = omega arith in
+    let column = column_of area.w row k (omega arith) (omega arith) in
+    let line : k / area.w ≡ row = ap (λ i. i / area.w) e ∙ div-mul-add row area.w j (omega arith) in
+    ap (λ i. gives (Tri t) (area.x + i) (area.y + k / area.w)) column
+    ∙ ap (λ i. gives (Tri t) (area.x + j) (area.y + i)) line
+    ∙ ap (λ b. cond b (Some (shaded t (centre (area.x + j) (area.y + row)))) None) (h j (omega arith) (omega arith)))
+
+-- where one stretch goes over uncovered pixels and the next over covered ones, both together have a pixel
+pub stretch-moves : (t : Triangle) (left y r s e to : ℕ) → r < to → r ≤ s → s ≤ e → (s < to → covers t (centre (left + s) y) ≢ false) → (e < to → covers t (centre (left + e) y) ≢ true) → r < e
+stretch-moves t left y r s e to l m n f g = by (cases_lt r e)
+  where
+    neither : (b : Bool) → b ≢ false → b ≢ true → ⊥
+    neither true h k = k refl
+    neither false h k = h refl
+
+    by : (r < e) ⊎ (e ≤ r) → r < e
+    by (inl h) = h
+    by (inr h) = absurd (let same : s ≡ e = omega arith in neither (covers t (centre (left + e) y)) (subst (λ i. covers t (centre (left + i) y) ≢ false) same (f (omega arith))) (g (omega arith)))
+
+-- columns of a row that are covered
+pub row-covered : (t : Triangle) (area : Area) (row from to left y : ℕ) → left ≡ area.x → y ≡ area.y + row → from ≤ to → to ≤ area.w → ((k : ℕ) → from ≤ k → k < to → covers t (centre (left + k) y) ≡ true) → IsCovered t area row from to
+row-covered t area row from to left y e f l m h = record {
+  order = l;
+  within = m;
+  all = subst (λ n. (k : ℕ) → from ≤ k → k < to → covers t (centre (area.x + k) n) ≡ true) f (subst (λ n. (k : ℕ) → from ≤ k → k < to → covers t (centre (n + k) y) ≡ true) e h);
+}
 
 -- the place of a column and a row
 pub place_of : (area : Area) (row column : ℕ) → row < area.h → column < area.w → IsPixelAt area (row * area.w + column) (area.x + column) (area.y + row)

@@ -1,6 +1,7 @@
 pub mod Boxes
 pub mod Paints
 pub mod Shapes
+pub mod Shares
 pub mod SharedEdge
 pub mod Stretches
 pub mod Triangles

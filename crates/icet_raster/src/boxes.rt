@@ -16,6 +16,7 @@ use icet_base::Rect;
 pub fn box_of(shapes: &[Shape]) -> Option<Rect>
     requires { All IsInRange shapes.now }
     ensures value { result ≡ box (map drawing_of shapes.now) }
+    ensures near { ForSome result IsNear }
     ensures none { (result ≡ None) ↔ All (λ drawing. bounds drawing ≡ None) (map drawing_of shapes.now) }
     ensures holds { IfSome result (λ rect. All (λ drawing. HoldsBox rect (bounds drawing)) (map drawing_of shapes.now)) }
     ensures least { IfSome result (λ rect. (other : Rect) → All (λ drawing. HoldsBox other (bounds drawing)) (map drawing_of shapes.now) → HoldsBox other (Some rect)) }

@@ -4,8 +4,8 @@ ghost use Rattle.icet_raster.specs.Boxes.{IsSpan};
 
 /// The columns and the rows of an area where a shape may be seen, counted from the area's corner: from
 /// the first of each up to the last, which isn't included.
-#[derive(Clone, Copy)]
-pub(crate) struct Part {
+#[derive(Clone, Copy, Debug, PartialEq, Eq)]
+pub struct Part {
     pub from: u32,
     pub to: u32,
     pub top: u32,

@@ -1,20 +1,21 @@
-ghost use Rattle.std.specs.Prelude.{◌≡◌, ◌<◌, ◌≤◌, ◌+◌, ◌*◌, ◌/◌, nat_le, true, All, Some};
-ghost use Rattle.icet_model.specs.Pixel.{FragmentView};
+ghost use Rattle.std.specs.Prelude.{◌≡◌, ◌<◌, ◌≤◌, ◌+◌, ◌*◌, true, All, Some};
 ghost use Rattle.icet_model.specs.Tiles.{area_of, IsOnDisplay};
 ghost use Rattle.icet_scene_model.specs.Raster.{Tri, drawn_over};
 ghost use Rattle.icet_scene_model.specs.Triangles.{centre, covers};
 ghost use Rattle.icet_raster.specs.Shapes.{triangle_of, IsCorner, IsPixelAt};
-ghost use Rattle.icet_raster.specs.Stretches.{Draws, IsSeenWithin, IsPartOf};
+ghost use Rattle.icet_raster.specs.Shares.{AreShadesAt, AreSlopes};
+ghost use Rattle.icet_raster.specs.Stretches.{Draws, IsCovered, IsSeenWithin, IsPartOf};
 ghost use Rattle.icet_raster.specs.Walks.{AreValues, IsWalk, walked};
 
 use crate::cut::{Part, cut};
 use crate::frame::frame_of;
 use crate::painting::draw_over;
-use crate::shading::{mixed, sum_of};
+use crate::shades::{Shades, next_shades, shaded, shades_at, slopes_of};
 use crate::shape::Vertex;
-use crate::walks::{Values, Walk, is_covered, next_values, values_at, walk_over, weights_at};
+use crate::stretches::{Reached, stretch_end};
+use crate::walks::{Walk, values_at, walk_over};
 use icet_base::{Mode, Rect};
-use icet_pixel::{Dense, Pixel};
+use icet_pixel::{Dense, Fragment, Pixel};
 
 /// A pixel of an area: its number there, and its column and row on the display.
 #[derive(Clone, Copy)]
@@ -44,15 +45,16 @@ pub(crate) fn draw_triangle(image: &mut Dense, mode: Mode, area: Rect, tri: &[Ve
                 top,
                 bottom,
             };
-            draw_rows(image, mode, area, &walk, part);
+            draw_rows(image, mode, area, &walk, slopes_of(&walk), part);
         }
     }
 }
 
 /// Draws the rows of a triangle that lie in its part of the area.
-fn draw_rows(image: &mut Dense, mode: Mode, area: Rect, walk: &Walk, part: Part)
+fn draw_rows(image: &mut Dense, mode: Mode, area: Rect, walk: &Walk, slopes: Shades, part: Part)
     requires area { IsOnDisplay (area_of area) }
     requires walk { IsWalk walk.now }
+    requires slopes { AreSlopes walk.now slopes }
     requires part { IsPartOf (area_of area) part }
     requires seen { IsSeenWithin (Tri (walked walk.now)) (area_of area) part }
     requires width { image.old.w ≡ area.w }
@@ -62,16 +64,24 @@ fn draw_rows(image: &mut Dense, mode: Mode, area: Rect, walk: &Walk, part: Part)
     ensures drawn { Draws mode (Tri (walked walk.now)) (area_of area) 0 (area.w * area.h) image.old.pixels image.new.pixels }
 {
     for row in part.top..part.bottom {
-        draw_row(image, mode, area, walk, part, row);
+        draw_row(image, mode, area, walk, slopes, part, row);
     }
 }
 
-/// Draws the part of a triangle in one row, from left to right with edge values that are carried from
-/// pixel to pixel.
+/// Draws the part of a triangle in one row, stretch by stretch of pixels that it covers.
 #[inline(never)]
-fn draw_row(image: &mut Dense, mode: Mode, area: Rect, walk: &Walk, part: Part, row: u32)
+fn draw_row(
+    image: &mut Dense,
+    mode: Mode,
+    area: Rect,
+    walk: &Walk,
+    slopes: Shades,
+    part: Part,
+    row: u32,
+)
     requires area { IsOnDisplay (area_of area) }
     requires walk { IsWalk walk.now }
+    requires slopes { AreSlopes walk.now slopes }
     requires part { IsPartOf (area_of area) part }
     requires row { row < area.h }
     requires width { image.old.w ≡ area.w }
@@ -85,48 +95,106 @@ fn draw_row(image: &mut Dense, mode: Mode, area: Rect, walk: &Walk, part: Part, 
     }
     let left = area.x.unsigned_abs();
     let y = area.y.unsigned_abs() + row;
-    let start = row * area.w;
-    let mut values = values_at(walk, left + part.from, y);
-    for column in part.from..part.to {
-        let place = Place {
-            at: start + column,
-            x: left + column,
-            y,
-        };
-        draw_at(image, mode, area, walk, values, place);
-        values = next_values(walk, values, left + column, y);
+    let mut reached = Reached {
+        column: part.from,
+        values: values_at(walk, left + part.from, y),
+    };
+    'stretches: while reached.column < part.to {
+        let start = stretch_end(walk, reached, false, left, y, part.to);
+        let end = stretch_end(walk, start, true, left, y, part.to);
+        draw_stretch(image, mode, area, walk, slopes, row, start, end.column);
+        reached = end;
     }
 }
 
-/// Draws the triangle's shade on a pixel where it covers it.
-#[inline(always)]
-fn draw_at(image: &mut Dense, mode: Mode, area: Rect, walk: &Walk, values: Values, place: Place)
+/// Draws the triangle's shades on a stretch of pixels that it covers. Each mode has a loop of its own, so that no pixel
+/// asks for it.
+fn draw_stretch(
+    image: &mut Dense,
+    mode: Mode,
+    area: Rect,
+    walk: &Walk,
+    slopes: Shades,
+    row: u32,
+    start: Reached,
+    to: u32,
+)
+    requires area { IsOnDisplay (area_of area) }
     requires walk { IsWalk walk.now }
-    requires place { IsPixelAt (area_of area) place.at place.x place.y }
-    requires values { AreValues walk.now place.x place.y values }
+    requires slopes { AreSlopes walk.now slopes }
+    requires row { row < area.h }
+    requires stretch { IsCovered (walked walk.now) (area_of area) row start.column to }
+    requires values { AreValues walk.now ((area_of area).x + start.column) ((area_of area).y + row) start.values }
     requires width { image.old.w ≡ area.w }
     requires height { image.old.h ≡ area.h }
     ensures width { image.new.w ≡ area.w }
     ensures height { image.new.h ≡ area.h }
-    ensures drawn { Draws mode (Tri (walked walk.now)) (area_of area) place.at (place.at + 1) image.old.pixels image.new.pixels }
+    ensures drawn { Draws mode (Tri (walked walk.now)) (area_of area) (row * area.w + start.column) (row * area.w + to) image.old.pixels image.new.pixels }
 {
-    if is_covered(walk, values) {
-        draw_covered(image, mode, area, walk, values, place);
+    match mode {
+        Mode::Depth => draw_covered(image, Mode::Depth, area, walk, slopes, row, start, to),
+        Mode::Blend => draw_covered(image, Mode::Blend, area, walk, slopes, row, start, to),
+        Mode::WideBlend => draw_covered(image, Mode::WideBlend, area, walk, slopes, row, start, to),
     }
 }
 
-/// Draws the triangle's shade on a pixel that it covers.
+/// Draws the triangle's shades on a stretch of pixels that it covers, with shares that are carried from pixel to pixel.
+#[inline(always)]
 fn draw_covered(
     image: &mut Dense,
     mode: Mode,
     area: Rect,
     walk: &Walk,
-    values: Values,
+    slopes: Shades,
+    row: u32,
+    start: Reached,
+    to: u32,
+)
+    requires area { IsOnDisplay (area_of area) }
+    requires walk { IsWalk walk.now }
+    requires slopes { AreSlopes walk.now slopes }
+    requires row { row < area.h }
+    requires stretch { IsCovered (walked walk.now) (area_of area) row start.column to }
+    requires values { AreValues walk.now ((area_of area).x + start.column) ((area_of area).y + row) start.values }
+    requires width { image.old.w ≡ area.w }
+    requires height { image.old.h ≡ area.h }
+    ensures width { image.new.w ≡ area.w }
+    ensures height { image.new.h ≡ area.h }
+    ensures drawn { Draws mode (Tri (walked walk.now)) (area_of area) (row * area.w + start.column) (row * area.w + to) image.old.pixels image.new.pixels }
+{
+    if start.column >= to {
+        return;
+    }
+    let left = area.x.unsigned_abs();
+    let y = area.y.unsigned_abs() + row;
+    let first = row * area.w;
+    let mut shades = shades_at(walk, start.values, left + start.column, y);
+    for column in start.column..to {
+        let place = Place {
+            at: first + column,
+            x: left + column,
+            y,
+        };
+        draw_shade(image, mode, area, walk, slopes, shades, place);
+        shades = next_shades(walk, slopes, shades, left + column, y);
+    }
+}
+
+/// Draws the triangle's shade on a pixel that it covers.
+#[inline(always)]
+fn draw_shade(
+    image: &mut Dense,
+    mode: Mode,
+    area: Rect,
+    walk: &Walk,
+    slopes: Shades,
+    shades: Shades,
     place: Place,
 )
     requires walk { IsWalk walk.now }
+    requires slopes { AreSlopes walk.now slopes }
+    requires shades { AreShadesAt walk.now place.x place.y shades }
     requires place { IsPixelAt (area_of area) place.at place.x place.y }
-    requires values { AreValues walk.now place.x place.y values }
     requires covered { covers (walked walk.now) (centre place.x place.y) ≡ true }
     requires width { image.old.w ≡ area.w }
     requires height { image.old.h ≡ area.h }
@@ -134,40 +202,26 @@ fn draw_covered(
     ensures height { image.new.h ≡ area.h }
     ensures drawn { Draws mode (Tri (walked walk.now)) (area_of area) place.at (place.at + 1) image.old.pixels image.new.pixels }
 {
-    let weights = weights_at(walk, values);
-    let depth = sum_of(weights, walk.first.z(), walk.second.z(), walk.third.z());
-    if is_hidden(mode, image.get(place.at), depth, weights.whole) {
+    let fragment = shaded(walk, slopes, shades, place.x, place.y);
+    if is_hidden(mode, image.get(place.at), fragment) {
         return;
     }
     image.width();
-    let fragment = mixed(weights, walk.first, walk.second, walk.third);
     let pixel = draw_over(mode, image.get(place.at), fragment);
     image.set(place.at, pixel);
 }
 
-/// Whether what was drawn before is known to hide a fragment whose depth is this quotient.
+/// Whether what was drawn before is known to hide a fragment, so that nothing has to be written.
 #[inline(always)]
-fn is_hidden(mode: Mode, before: Pixel, sum: u64, whole: u64) -> bool
-    requires some { 0 < whole }
-    requires small { whole ≤ 549751619592 }
-    ensures { result ≡ true → (f : FragmentView) → f.z ≡ sum / whole → drawn_over mode before (Some f) ≡ before }
+fn is_hidden(mode: Mode, before: Pixel, fragment: Fragment) -> bool
+    ensures { result ≡ true → drawn_over mode before (Some fragment) ≡ before }
 {
     match mode {
         Mode::Depth => match before {
-            Some(before) => is_quotient_at_least(sum, whole, before.z()),
+            Some(before) => before.z() <= fragment.z(),
             None => false,
         },
         Mode::Blend => false,
         Mode::WideBlend => false,
     }
-}
-
-/// Whether the quotient is at least a depth, without dividing.
-fn is_quotient_at_least(sum: u64, whole: u64, depth: u32) -> bool
-    requires some { 0 < whole }
-    requires small { whole ≤ 549751619592 }
-    requires depth { depth ≤ 16777214 }
-    ensures { result ≡ nat_le depth (sum / whole) }
-{
-    u64::from(depth) * whole <= sum
 }

@@ -72,7 +72,7 @@ pub(crate) fn mean(weights: Weights, a: u32, b: u32, c: u32) -> u32
     ensures value { result ≡ mean (weights_of weights) a b c }
     ensures most { (most : ℕ) → a ≤ most → b ≤ most → c ≤ most → result ≤ most }
 {
-    quotient(sum_of(weights, a, b, c), weights) as u32
+    quotient(sum_of(weights, a, b, c), weights.whole, weights.inverse) as u32
 }
 
 /// The sum of three values by these weights.
@@ -94,22 +94,23 @@ pub(crate) fn inverse_of(number: u64) -> u64 {
 
 /// The quotient of a sum by the whole weight: guessed by the inverse, which saves the division wherever
 /// the guess passes the test.
-fn quotient(sum: u64, weights: Weights) -> u64
-    requires { AreWeights weights }
-    ensures { result ≡ sum / weights.whole }
+pub(crate) fn quotient(sum: u64, whole: u64, inverse: u64) -> u64
+    requires some { 0 < whole }
+    requires small { whole ≤ 549751619592 }
+    ensures { result ≡ sum / whole }
 {
-    let guess = ((u128::from(sum) * u128::from(weights.inverse)) >> 64) as u64;
+    let guess = ((u128::from(sum) * u128::from(inverse)) >> 64) as u64;
     if guess <= 16777214 {
-        let least = guess * weights.whole;
+        let least = guess * whole;
         if least <= sum {
             let rest = sum - least;
-            if rest < weights.whole {
+            if rest < whole {
                 return guess;
             }
-            if rest - weights.whole < weights.whole {
+            if rest - whole < whole {
                 return guess + 1;
             }
         }
     }
-    sum / weights.whole
+    sum / whole
 }

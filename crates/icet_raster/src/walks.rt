@@ -140,7 +140,8 @@ pub(crate) fn is_covered(walk: &Walk, values: Values) -> bool
 fn passes(value: i64, counts: bool) -> bool
     ensures { result ≡ by_sign value false counts true }
 {
-    value > 0 || (counts && value == 0)
+    let least = if counts { 0 } else { 1 };
+    value >= least
 }
 
 /// The weights at a covered pixel.

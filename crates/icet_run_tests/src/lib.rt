@@ -5,6 +5,8 @@
 #[cfg(test)]
 mod closing;
 #[cfg(test)]
+mod demonstration;
+#[cfg(test)]
 mod opening;
 #[cfg(test)]
 mod runs;

@@ -30,7 +30,7 @@ pub(crate) fn open_sequential<W: Wires>(
         k: 8,
     };
     let plan = plan_of(alloc, scene, &settings)?;
-    let images = images_of(alloc, scene)?;
+    let images = images_of(alloc, scene, 1)?;
     open_net(
         alloc,
         plan,

@@ -245,6 +245,25 @@ fn each_command_writes_its_text(rt: HostRuntime) {
     }
 }
 
+/// One rank, which draws the first and the third of four pixels.
+const APART: &str =
+    "icet-scene 1\nmode depth\nranks 1\ntile 0 0 4 1 0\npoint 0 0 0 7 1 2 3 255\npoint 0 2 0 7 4 5 6 255\nend\n";
+
+// In two strands the pixels stand in the order 0, 2, 1, 3, and in three in the order 0, 3, 1, 2. The picture is the
+// same.
+#[test]
+fn images_are_weighed_in_their_strands(rt: HostRuntime) {
+    for (strands, written) in [
+        ("1", b"tile 0 4 1 2 5 7 9 510\nweight 32\n".as_slice()),
+        ("2", b"tile 0 4 1 2 5 7 9 510\nweight 24\n"),
+        ("3", b"tile 0 4 1 2 5 7 9 510\nweight 32\n"),
+    ] {
+        let words = ["summary", "--strands", strands];
+        let came = came_of_scene(&rt, rt.alloc(), &words, APART);
+        assert_came(&rt, &came, done(written), strands);
+    }
+}
+
 /// What comes of a run whose source and sink fail at the calls with these numbers.
 fn came_of_faults<R: Threads + Sync>(
     rt: &R,
@@ -381,7 +400,7 @@ fn each_kind_of_wires_carries_the_same_pictures(rt: HostRuntime) {
                 ];
                 let came = came_over_rings(&rt, rt.alloc(), &words, scene, blind);
                 assert_came(&rt, &came, done(picture), cap);
-                let words = ["composite", "--cap", cap, "--burst", "1"];
+                let words = ["composite", "--strands=3", "--cap", cap, "--burst=1"];
                 let came = came_over_rings(&rt, rt.alloc(), &words, scene, blind);
                 assert_came(&rt, &came, done(picture), cap);
             }
@@ -460,7 +479,8 @@ fn other_words_are_refused_with_nothing_read(rt: HostRuntime) {
         &["composite", "--cap", "65"],
         &["composite", "--cap", "2", "--cap", "2"],
         &["composite", "--cap"],
-        &["composite", "--strands", "2"],
+        &["composite", "--strands", "0"],
+        &["composite", "--strands", "65"],
         &["replay", "--schedule", "1,,2"],
         &["replay", "--schedule", "256"],
         &["--help"],

@@ -39,12 +39,20 @@ const REDUCE: &[&str] = &["composite", "--single=tree"];
 
 const SWAP: &[&str] = &["composite", "--strategy=sequential", "--single=bswap"];
 
+const THREE_STRANDS: &[&str] = &["composite", "--strands", "3"];
+
+const MOST_STRANDS: &[&str] = &["composite", "--strands=64"];
+
+const UPGRADE: &[&str] = &["upgrade"];
+
 /// Words, a scene, and its pictures.
 const COMPOSITES: &[(&[&str], &str, &[u8])] = &[
     (DIRECT, SHARED_EDGE, EDGE_PICTURE),
     (TREE, SHARED_EDGE, EDGE_PICTURE),
     (SWAP, SHARED_EDGE, EDGE_PICTURE),
     (SWAP, READY_DRAWN, EDGE_PICTURE),
+    (THREE_STRANDS, SHARED_EDGE, EDGE_PICTURE),
+    (MOST_STRANDS, WALL, WALL_PICTURES),
     (
         DIRECT,
         REDS,
@@ -87,6 +95,30 @@ fn each_mode_shows_its_composite(rt: HostRuntime) {
     for (words, scene, picture) in COMPOSITES {
         let came = came_of_scene(&rt, rt.alloc(), words, scene);
         assert_came(&rt, &came, done(picture), scene);
+    }
+}
+
+/// A scene, and its text with its shapes ready drawn.
+const UPGRADES: &[(&str, &str)] = &[
+    (SHARED_EDGE, READY_DRAWN),
+    (READY_DRAWN, READY_DRAWN),
+    (
+        "icet-scene 1\nmode depth\nranks 2\ntile 0 0 1 1 0\ntile 1 0 1 1 1\npoint 0 2 0 9 3 3 3 255\npoint 0 1 0 8 2 2 2 255\npoint 0 0 0 7 1 1 1 255\nend\n",
+        "icet-scene 2\nmode depth\nranks 2\ntile 0 0 1 1 0\ntile 1 0 1 1 1\nspan 0 0 0 7 1 1 1 255 8 2 2 2 255\nend\n",
+    ),
+    (
+        "icet-scene 1\nmode blend\nranks 2\nbackground 1 2 3 4\norder 1 0\ntile 1 0 3 1 0\ntile 0 0 3 1 1\npoint 1 0 0 0 9 0 0 9\npoint 1 2 0 0 0 0 0 0\npoint 1 3 0 0 5 0 0 9\nend\n",
+        "icet-scene 2\nmode blend\nranks 2\nbackground 1 2 3 4\norder 1 0\ntile 1 0 3 1 0\ntile 0 0 3 1 1\nspan 1 0 0 0 9 0 0 9\nspan 1 3 0 0 5 0 0 9\nend\n",
+    ),
+];
+
+// Each maximal run of a rank's fragments in a row is a span, also across the seam of two tiles; what no tile shows is
+// left out.
+#[test]
+fn shapes_are_written_ready_drawn(rt: HostRuntime) {
+    for (scene, written) in UPGRADES {
+        let came = came_of_scene(&rt, rt.alloc(), UPGRADE, scene);
+        assert_came(&rt, &came, done(written.as_bytes()), scene);
     }
 }
 

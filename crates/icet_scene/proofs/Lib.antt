@@ -6,3 +6,4 @@ pub mod ShapeLines
 pub mod Growth
 pub mod SpanWords
 pub mod Ends
+pub mod TriForms

@@ -13,7 +13,14 @@ use icet_text::words::{count_numerals, split_word};
 pub fn are_allowed(line: &[u8]) -> bool
     ensures { result ≡ list_all is_allowed line.now }
 {
-    line.iter().all(|byte| 32 <= *byte && *byte <= 126)
+    // with no way out of the loop, many bytes are tested at once
+    let mut has_other = false;
+    for byte in line {
+        if *byte < 32 || 126 < *byte {
+            has_other = true;
+        }
+    }
+    !has_other
 }
 
 /// Whether the line is empty, or a comment.

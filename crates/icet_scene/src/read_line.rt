@@ -2,9 +2,10 @@ ghost use Rattle.std.specs.Prelude.{◌≡◌, List, IfOk, IfSome, Some, true};
 ghost use Rattle.std.specs.Option.{option_copied};
 ghost use Rattle.icet_text.specs.Words.{words_behind};
 ghost use Rattle.icet_scene_model.specs.Scene.{Said};
-ghost use Rattle.icet_scene_model.specs.SceneLines.{has_form, keyword_reading, line_behind, ranged, said_in};
+ghost use Rattle.icet_scene_model.specs.SceneLines.{Says, has_form, keyword_reading, line_behind, ranged, said_in};
 ghost use Rattle.icet_scene.specs.Drafts.{IsAddable, IsDraft, HasPlace, keyword_stands};
-ghost use Rattle.icet_scene.specs.Lines.{IsLine, IsLineOrSkipped};
+ghost use Rattle.icet_scene.specs.Lines.{IsLine, IsLineOrSkipped, said_of};
+ghost use Rattle.icet_scene_model.specs.declared.keyword.Keyword.TheVariants.{Tri as TriWord};
 
 use crate::draft::Draft;
 use crate::form::{are_allowed, has_form, is_skipped, keyword_of, may_stand};
@@ -41,6 +42,42 @@ pub fn read_line(alloc: Global, draft: &Draft, line: &[u8]) -> Result<Option<Lin
 
 /// What the line of a keyword says.
 fn form_line(
+    alloc: Global,
+    draft: &Draft,
+    keyword: Keyword,
+    words: Option<&[u8]>,
+) -> Result<Line, LineFault>
+    requires { HasPlace draft.now.place draft.now }
+    ensures line { (before : List Said) → IsDraft before draft.now → IsLine result (keyword_reading before (Some keyword) (words_behind (option_copied words.entry))) }
+    ensures addable { IfOk result (IsAddable draft.now) }
+{
+    match keyword {
+        Keyword::Tri => match faultless_tri(draft, words) {
+            Some(line) => Ok(line),
+            None => checked_line(alloc, draft, keyword, words),
+        },
+        _ => checked_line(alloc, draft, keyword, words),
+    }
+}
+
+/// The triangle of a line without fault, whose words are read once. None says nothing of the line.
+#[tactic(auto, using(crate::proofs::Growth::is_sound))]
+fn faultless_tri(draft: &Draft, words: Option<&[u8]>) -> Option<Line>
+    requires { HasPlace draft.now.place draft.now }
+    ensures line { (before : List Said) → IsDraft before draft.now → IfSome result (λ line. keyword_reading before (Some TriWord) (words_behind (option_copied words.entry)) ≡ Says (said_of line)) }
+    ensures addable { IfSome result (IsAddable draft.now) }
+{
+    if !stands(draft, Keyword::Tri) {
+        return None;
+    }
+    match tri_line(draft.ranks, draft.maxval, words) {
+        Err(_) => None,
+        Ok(line) => Some(line),
+    }
+}
+
+/// What the line of a keyword says, where its form is tested first, and then its place.
+fn checked_line(
     alloc: Global,
     draft: &Draft,
     keyword: Keyword,

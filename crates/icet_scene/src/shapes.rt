@@ -10,7 +10,7 @@ ghost use Rattle.icet_text.specs.Words.{words_behind};
 ghost use Rattle.icet_scene_model.specs.Lawful.{IsPaint, IsPaintedCorner, IsPaintedTriangle};
 ghost use Rattle.icet_scene_model.specs.Raster.{Point, Span};
 ghost use Rattle.icet_scene_model.specs.Scene.{Said, TileIs, ranks_in, maxval_in, tiles_in};
-ghost use Rattle.icet_scene_model.specs.SceneLines.{ranged, said_in, tile_of, paint_at, paints_in, corner_at, is_premultiplied};
+ghost use Rattle.icet_scene_model.specs.SceneLines.{has_form, ranged, said_in, tile_of, paint_at, paints_in, corner_at, is_premultiplied};
 ghost use Rattle.icet_scene_model.specs.declared.keyword.Keyword.TheVariants.{Tile as TileWord, Point as PointWord, Tri as TriWord, Span as SpanWord};
 ghost use Rattle.icet_scene.specs.declared.draft.Draft.{Draft};
 ghost use Rattle.icet_scene.specs.Drafts.{IsAddable, keyword_stands};
@@ -135,6 +135,7 @@ fn point(ns: &[Number], paint: Fragment) -> Shape
 pub fn tri_line(ranks: u32, most: u32, words: Option<&[u8]>) -> Result<Line, LineFault>
     requires { most ≤ 65535 }
     ensures line { (before : List Said) → ranks_in before ≡ ranks → maxval_in before ≡ most → IsLine result (ranged before (said_in before TriWord (words_behind (option_copied words.entry)))) }
+    ensures form { OnOk result (has_form TriWord (words_behind (option_copied words.entry)) ≡ true) }
     ensures addable { (d : Draft) → keyword_stands d TriWord ≡ true → d.ranks ≡ ranks → d.maxval ≡ most → IfOk result (IsAddable d) }
 {
     match numbers(&tri_fields(ranks, most), words) {

@@ -210,3 +210,23 @@ flat_triangle = record { a = corner 0 0 1 5; b = corner 16 16 1 5; c = corner 32
 
 abbrev pub two_greys : List FragmentView
 two_greys = grey 1 7 ∷ grey 2 7 ∷ []
+
+-- a corner of a paint, at a spot in sixteenths of a pixel
+abbrev pub painted : ℕ → ℕ → FragmentView → Corner
+painted x y paint = record { spot = record { x = pos x; y = pos y }; paint = paint }
+
+-- the halves of a square of four pixels, each in one paint and of one rank: what the three spans are of
+abbrev pub halves : SceneView
+halves = record spans {
+  shapes = record { rank = 0; shape = Tri (record { a = painted 0 0 (paint 10 20 30 5); b = painted 32 0 (paint 10 20 30 5); c = painted 0 32 (paint 10 20 30 5) }) }
+      ∷ record { rank = 1; shape = Tri (record { a = painted 32 0 (paint 40 50 60 5); b = painted 32 32 (paint 40 50 60 5); c = painted 0 32 (paint 40 50 60 5) }) } ∷ [];
+}
+
+-- two tiles side by side, a third over both of them, and points on either side of the seam and outside of all
+abbrev pub seam : SceneView
+seam = record spans {
+  tiles = tile 2 0 1 1 1 ∷ tile 1 0 1 1 0 ∷ tile 1 0 2 1 2 ∷ [];
+  ranks = 3;
+  order = 0 ∷ 1 ∷ 2 ∷ [];
+  shapes = grey_point 1 2 0 8 7 ∷ grey_point 1 3 0 9 7 ∷ grey_point 1 1 0 7 7 ∷ [];
+}

@@ -8,6 +8,7 @@ pub mod Picture
 pub mod Printed
 pub mod Raster
 pub mod ReadPicture
+pub mod Ready
 pub mod Scene
 pub mod SceneLines
 pub mod Texts

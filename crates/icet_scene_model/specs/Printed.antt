@@ -86,8 +86,9 @@ version_of scene = if needs_second_version scene then 2 else 1
 abbrev pub is_clear : FragmentView → Bool
 is_clear paint = (paint.r == 0 && paint.g == 0) && (paint.b == 0 && paint.a == 0)
 
-abbrev pub head_said : SceneView → List Said
-head_said scene = HeadIs (version_of scene) ∷ ModeIs (is_blending scene.mode) ∷ RanksAre scene.ranks ∷ []
+-- the first lines of a text of a version
+abbrev pub head_said : ℕ → SceneView → List Said
+head_said version scene = HeadIs version ∷ ModeIs (is_blending scene.mode) ∷ RanksAre scene.ranks ∷ []
 
 abbrev pub maxval_said : Bool → List Said
 maxval_said wide = if wide then MaxvalIs WIDE_CHANNEL ∷ [] else []
@@ -106,9 +107,18 @@ settings_said scene = maxval_said scene.wide ++ (background_said scene.backgroun
 abbrev pub body_said : SceneView → List Said
 body_said scene = map TileIs scene.tiles ++ (map Draws scene.shapes ++ EndIs ∷ [])
 
--- what the lines of a scene's text say, in their order
-abbrev pub said_by : SceneView → List Said
-said_by scene = head_said scene ++ (settings_said scene ++ body_said scene)
+-- what the lines of a scene's text of a version say, in their order
+abbrev pub said_by : ℕ → SceneView → List Said
+said_by version scene = head_said version scene ++ (settings_said scene ++ body_said scene)
 
+-- a scene's text of a version
+abbrev pub text_in : ℕ → SceneView → List ℕ
+text_in version scene = lines_text (said_by version scene)
+
+-- in the version that the scene needs
 abbrev pub printed : SceneView → List ℕ
-printed scene = lines_text (said_by scene)
+printed scene = text_in (version_of scene) scene
+
+-- in version 2, whatever the scene needs
+abbrev pub upgraded : SceneView → List ℕ
+upgraded scene = text_in 2 scene

@@ -5,10 +5,11 @@ ghost use Rattle.icet_model.specs.declared.bracket.Bracket.TheVariants.{Leaf, Pa
 ghost use Rattle.icet_scene_model.specs.Raster.{Point, Span, Tri, drawn, full_image, gives};
 ghost use Rattle.icet_scene_model.specs.Boxes.{bounds, box, contributors, meets};
 ghost use Rattle.icet_scene_model.specs.Picture.{header, picture_text, pixel_bytes};
+ghost use Rattle.icet_scene_model.specs.Ready.{ready_scene, ready_shapes, stretches};
 ghost use Rattle.icet_scene_model.specs.Scene.{clear};
 ghost use Rattle.icet_scene_model.specs.Jobs.{composite_text, plain_picture};
 ghost use Rattle.icet_model.specs.Examples.{grey, red};
-ghost use Rattle.icet_scene_model.specs.Examples.{area, beside, corner, deep_red, diagonal, diagonal_pixels, flat_triangle, four_boxes, header_text, lower_half, lower_pixels, one_point, opaque_red, over_the_edge, pale, pale_and_grey, rect, reds, shaded_half, square, tie, tie_bracket, tile, turned_half, two_greys, upper_half, upper_pixels};
+ghost use Rattle.icet_scene_model.specs.Examples.{area, beside, corner, deep_red, diagonal, diagonal_pixels, flat_triangle, four_boxes, halves, header_text, lower_half, lower_pixels, one_point, opaque_red, over_the_edge, pale, pale_and_grey, rect, reds, seam, shaded_half, span, spans, square, tie, tie_bracket, tile, turned_half, two_greys, upper_half, upper_pixels};
 
 /// A point is at its own pixel alone, and of two shapes of a rank at equal depth the earlier one is
 /// seen. The image of an area goes row by row from its top left pixel.
@@ -69,4 +70,12 @@ pub fn boxes()
     ensures negative { meets (beside (negsuc 1) (pos 3) 3 3) (beside (pos 0) (pos 3) 1 1) ≡ true }
     ensures empty { meets (rect (pos 3) 0 3) (rect (pos 0) 9 9) ≡ false }
     ensures in_order { contributors four_boxes (2 ∷ 1 ∷ 0 ∷ 3 ∷ []) (area 0 0 4 1) ≡ (2 ∷ 0 ∷ []) }
+{}
+
+/// A scene's shapes ready drawn: a span for each maximal run of a rank's fragments in a row. A run goes on where one tile
+/// ends and the next begins, a pixel of two tiles counts once, and what no tile shows is left out.
+pub fn ready_scenes()
+    ensures halves { ready_scene halves ≡ spans }
+    ensures seam { ready_shapes seam ≡ span 1 1 0 (grey 7 7 ∷ grey 8 7 ∷ []) ∷ [] }
+    ensures runs { stretches 5 (None ∷ Some (grey 1 7) ∷ Some (grey 2 7) ∷ None ∷ Some (grey 3 7) ∷ []) ≡ (record { column = 6; paints = two_greys } ∷ record { column = 9; paints = grey 3 7 ∷ [] } ∷ []) }
 {}

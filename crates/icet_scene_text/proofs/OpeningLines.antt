@@ -43,45 +43,52 @@ or_true false = refl
 has_spans : SceneView → Bool
 has_spans scene = list_any (λ placed. is_span placed.shape) scene.shapes
 
-pub spans_second : (scene : SceneView) → list_any (λ placed. is_span placed.shape) scene.shapes ≡ true → version_of scene ≡ 2
+spans_second : (scene : SceneView) → list_any (λ placed. is_span placed.shape) scene.shapes ≡ true → version_of scene ≡ 2
 spans_second scene e = ap (λ b. if (b || (scene.wide || (nat_lt 64 scene.ranks || nat_lt 16 (length scene.tiles)))) then 2 else 1) e
 
 wide_second : (scene : SceneView) → scene.wide ≡ true → version_of scene ≡ 2
 unfolding has_spans
 wide_second scene e = ap (λ b. if (has_spans scene || (b || (nat_lt 64 scene.ranks || nat_lt 16 (length scene.tiles)))) then 2 else 1) e ∙ ap (λ b. if b then 2 else 1) (or_true (has_spans scene))
 
--- a version has room for the ranks and the tiles
+-- a version has room for the ranks and the tiles, and takes spans and wide channels where the scene has them
 pub record HasVersion (scene : SceneView) (v : ℕ) : Type 0 where
   pub least : 1 ≤ v
   pub most : v ≤ 2
   pub ranks : scene.ranks ≤ most_ranks v
   pub tiles : length scene.tiles ≤ most_tiles v
+  pub spans : list_any (λ placed. is_span placed.shape) scene.shapes ≡ true → v ≡ 2
+  pub wide : scene.wide ≡ true → v ≡ 2
+
+-- the second version has room for every scene
+pub has_second : (scene : SceneView) → IsLawfulScene scene → HasVersion scene 2
+has_second scene h = record { least = omega arith; most = omega arith; ranks = h.few; tiles = h.layout.few; spans = λ e. refl; wide = λ e. refl }
 
 pub has_version : (scene : SceneView) → IsLawfulScene scene → HasVersion scene (version_of scene)
 unfolding has_spans
 has_version scene h = go (needs_second_version scene) refl
   where
     go : (b : Bool) → needs_second_version scene ≡ b → HasVersion scene (if b then 2 else 1)
-    go true e = record { least = omega arith; most = omega arith; ranks = h.few; tiles = h.layout.few }
+    go true e = has_second scene h
     go false e =
         let rest = (or_false scene.wide (nat_lt 64 scene.ranks || nat_lt 16 (length scene.tiles)) (or_false (has_spans scene) (scene.wide || (nat_lt 64 scene.ranks || nat_lt 16 (length scene.tiles))) e).1).1 in
         let parts = or_false (nat_lt 64 scene.ranks) (nat_lt 16 (length scene.tiles)) rest in
         let few = parts.0 in
+        let spans : list_any (λ placed. is_span placed.shape) scene.shapes ≡ true → 1 ≡ 2 = (λ t. sym (ap (λ b. if b then 2 else 1) e) ∙ spans_second scene t) in
+        let wide : scene.wide ≡ true → 1 ≡ 2 = (λ t. sym (ap (λ b. if b then 2 else 1) e) ∙ wide_second scene t) in
         let small = parts.1 in
-        record { least = omega arith; most = omega arith; ranks = grind (arith, nat_tests, few); tiles = grind (arith, nat_tests, small) }
+        record { least = omega arith; most = omega arith; ranks = grind (arith, nat_tests, few); tiles = grind (arith, nat_tests, small); spans = spans; wide = wide }
 
 -- the first three lines, the newest first
-pub headed : SceneView → List Said
-headed scene = RanksAre scene.ranks ∷ ModeIs (is_blending scene.mode) ∷ HeadIs (version_of scene) ∷ []
+pub headed : ℕ → SceneView → List Said
+headed v scene = RanksAre scene.ranks ∷ ModeIs (is_blending scene.mode) ∷ HeadIs v ∷ []
 
-pub head_says : (scene : SceneView) → IsLawfulScene scene → AllSaid [] (head_said scene)
-head_says scene h =
-    let v = has_version scene h in
-    record { first = head_read (version_of scene) v.least v.most; rest = record { first = mode_read (version_of scene) (is_blending scene.mode); rest = record { first = ranks_read (is_blending scene.mode) (version_of scene) scene.ranks h.some v.ranks; rest = tt } } }
+pub head_says : (v : ℕ) (scene : SceneView) → HasVersion scene v → IsLawfulScene scene → AllSaid [] (head_said v scene)
+head_says v scene fits h =
+    record { first = head_read v fits.least fits.most; rest = record { first = mode_read v (is_blending scene.mode); rest = record { first = ranks_read (is_blending scene.mode) v scene.ranks h.some fits.ranks; rest = tt } } }
 
 -- what the lines before the first tile say of the scene, with a background and an order
-pub record Opened (scene : SceneView) (before : List Said) (back : FragmentView) (order : List ℕ) : Type 0 where
-  pub version : version_in before ≡ version_of scene
+pub record Opened (v : ℕ) (scene : SceneView) (before : List Said) (back : FragmentView) (order : List ℕ) : Type 0 where
+  pub version : version_in before ≡ v
   pub blends : blends_in before ≡ is_blending scene.mode
   pub ranks : ranks_in before ≡ scene.ranks
   pub maxval : maxval_in before ≡ greatest_channel scene.wide
@@ -92,20 +99,20 @@ pub record Opened (scene : SceneView) (before : List Said) (back : FragmentView)
   pub takes_order : (r : Bool) → may_stand (place_behind before) true r Order ≡ true
   pub takes_tile : (r : Bool) → may_stand (place_behind before) false r Tile ≡ true
 
-maxval_says : (scene : SceneView) (w : Bool) → scene.wide ≡ w → AllSaid (headed scene) (maxval_said w)
+maxval_says : (v : ℕ) (scene : SceneView) → HasVersion scene v → (w : Bool) → scene.wide ≡ w → AllSaid (headed v scene) (maxval_said w)
 unfolding headed
-maxval_says scene true e = record { first = maxval_read (version_of scene) scene.ranks (is_blending scene.mode) (wide_second scene e); rest = tt }
-maxval_says scene false e = tt
+maxval_says v scene fits true e = record { first = maxval_read v scene.ranks (is_blending scene.mode) (fits.wide e); rest = tt }
+maxval_says v scene fits false e = tt
 
-widened : (scene : SceneView) (w : Bool) → scene.wide ≡ w → Opened scene (behind (headed scene) (maxval_said w)) clear []
+widened : (v : ℕ) (scene : SceneView) (w : Bool) → scene.wide ≡ w → Opened v scene (behind (headed v scene) (maxval_said w)) clear []
 unfolding headed
-widened scene true e = record { version = refl; blends = refl; ranks = refl; maxval = sym (ap greatest_channel e); background = refl; order_is = refl; tiles = refl; shapes = refl; takes_order = λ r. refl; takes_tile = λ r. refl }
-widened scene false e = record { version = refl; blends = refl; ranks = refl; maxval = sym (ap greatest_channel e); background = refl; order_is = refl; tiles = refl; shapes = refl; takes_order = λ r. refl; takes_tile = λ r. refl }
+widened v scene true e = record { version = refl; blends = refl; ranks = refl; maxval = sym (ap greatest_channel e); background = refl; order_is = refl; tiles = refl; shapes = refl; takes_order = λ r. refl; takes_tile = λ r. refl }
+widened v scene false e = record { version = refl; blends = refl; ranks = refl; maxval = sym (ap greatest_channel e); background = refl; order_is = refl; tiles = refl; shapes = refl; takes_order = λ r. refl; takes_tile = λ r. refl }
 
-takes_background : (scene : SceneView) (w b r : Bool) → may_stand (place_behind (behind (headed scene) (maxval_said w))) b r Background ≡ true
+takes_background : (v : ℕ) (scene : SceneView) (w b r : Bool) → may_stand (place_behind (behind (headed v scene) (maxval_said w))) b r Background ≡ true
 unfolding headed
-takes_background scene true b r = refl
-takes_background scene false b r = refl
+takes_background v scene true b r = refl
+takes_background v scene false b r = refl
 
 backdrop : Bool → FragmentView → List Said
 backdrop c paint = if c then [] else BackgroundIs paint ∷ []
@@ -137,14 +144,14 @@ clear_is p e z =
     let back = both (p.b == 0) (p.a == 0) parts.1 in
     sym (ap (λ r. paint_of r p.g p.b p.a p.z) (is_zero p.r front.0) ∙ ap (λ g. paint_of 0 g p.b p.a p.z) (is_zero p.g front.1) ∙ ap (λ b. paint_of 0 0 b p.a p.z) (is_zero p.b back.0) ∙ ap (λ a. paint_of 0 0 0 a p.z) (is_zero p.a back.1) ∙ ap (paint_of 0 0 0 0) z)
 
-backed : (scene : SceneView) (before : List Said) (c : Bool) → IsLawfulScene scene → is_clear scene.background ≡ c → Opened scene before clear [] → Opened scene (behind before (backdrop c scene.background)) scene.background []
+backed : (v : ℕ) (scene : SceneView) (before : List Said) (c : Bool) → IsLawfulScene scene → is_clear scene.background ≡ c → Opened v scene before clear [] → Opened v scene (behind before (backdrop c scene.background)) scene.background []
 unfolding backdrop
-backed scene before true h e o = record { version = o.version; blends = o.blends; ranks = o.ranks; maxval = o.maxval; background = o.background ∙ clear_is scene.background e h.depth; order_is = o.order_is; tiles = o.tiles; shapes = o.shapes; takes_order = o.takes_order; takes_tile = o.takes_tile }
-backed scene before false h e o = record { version = o.version; blends = o.blends; ranks = o.ranks; maxval = o.maxval; background = refl; order_is = o.order_is; tiles = o.tiles; shapes = o.shapes; takes_order = λ r. refl; takes_tile = λ r. refl }
+backed v scene before true h e o = record { version = o.version; blends = o.blends; ranks = o.ranks; maxval = o.maxval; background = o.background ∙ clear_is scene.background e h.depth; order_is = o.order_is; tiles = o.tiles; shapes = o.shapes; takes_order = o.takes_order; takes_tile = o.takes_tile }
+backed v scene before false h e o = record { version = o.version; blends = o.blends; ranks = o.ranks; maxval = o.maxval; background = refl; order_is = o.order_is; tiles = o.tiles; shapes = o.shapes; takes_order = λ r. refl; takes_tile = λ r. refl }
 
 -- what all lines before the next one say of the scene, but for its tiles and shapes
-pub record Kept (scene : SceneView) (before : List Said) : Type 0 where
-  pub version : version_in before ≡ version_of scene
+pub record Kept (v : ℕ) (scene : SceneView) (before : List Said) : Type 0 where
+  pub version : version_in before ≡ v
   pub blends : blends_in before ≡ is_blending scene.mode
   pub ranks : ranks_in before ≡ scene.ranks
   pub maxval : maxval_in before ≡ greatest_channel scene.wide
@@ -152,29 +159,29 @@ pub record Kept (scene : SceneView) (before : List Said) : Type 0 where
   pub order_is : (if is_blending scene.mode then order_in before else range_with_len 0 scene.ranks) ≡ scene.order
 
 -- the next line may be the first tile
-pub record Started (scene : SceneView) (before : List Said) : Type 0 where
-  pub kept : Kept scene before
+pub record Started (v : ℕ) (scene : SceneView) (before : List Said) : Type 0 where
+  pub kept : Kept v scene before
   pub tiles : tiles_in before ≡ []
   pub shapes : shapes_in before ≡ []
   pub first : stands before Tile ≡ true
 
-order_says : (scene : SceneView) (before : List Said) (b : Bool) → IsLawfulScene scene → is_blending scene.mode ≡ b → Opened scene before scene.background [] → AllSaid before (order_said b scene.order)
-order_says scene before false h e o = tt
-order_says scene before true h e o = record { first = order_read before scene.ranks scene.order o.ranks h.some h.few h.each (ap (λ x. may_stand (place_behind before) x (has_room before) Order) (o.blends ∙ e) ∙ o.takes_order (has_room before)); rest = tt }
+order_says : (v : ℕ) (scene : SceneView) (before : List Said) (b : Bool) → IsLawfulScene scene → is_blending scene.mode ≡ b → Opened v scene before scene.background [] → AllSaid before (order_said b scene.order)
+order_says v scene before false h e o = tt
+order_says v scene before true h e o = record { first = order_read before scene.ranks scene.order o.ranks h.some h.few h.each (ap (λ x. may_stand (place_behind before) x (has_room before) Order) (o.blends ∙ e) ∙ o.takes_order (has_room before)); rest = tt }
 
 depth_of : (mode : DrawMode) → is_blending mode ≡ false → mode ≡ Depth
 depth_of Depth e = refl
 depth_of Blend e = absurd cc
 depth_of WideBlend e = absurd cc
 
-started : (scene : SceneView) (before : List Said) (b : Bool) → IsLawfulScene scene → is_blending scene.mode ≡ b → Opened scene before scene.background [] → Started scene (behind before (order_said b scene.order))
-started scene before false h e o = record {
+started : (v : ℕ) (scene : SceneView) (before : List Said) (b : Bool) → IsLawfulScene scene → is_blending scene.mode ≡ b → Opened v scene before scene.background [] → Started v scene (behind before (order_said b scene.order))
+started v scene before false h e o = record {
   kept = record { version = o.version; blends = o.blends; ranks = o.ranks; maxval = o.maxval; background = o.background; order_is = ap (λ x. if x then order_in before else range_with_len 0 scene.ranks) e ∙ sym (h.ascending (depth_of scene.mode e)) };
   tiles = o.tiles;
   shapes = o.shapes;
   first = ap (λ x. may_stand (place_behind before) x (has_room before) Tile) (o.blends ∙ e) ∙ o.takes_tile (has_room before);
 }
-started scene before true h e o = record {
+started v scene before true h e o = record {
   kept = record { version = o.version; blends = o.blends; ranks = o.ranks; maxval = o.maxval; background = o.background; order_is = ap (λ x. if x then scene.order else range_with_len 0 scene.ranks) e };
   tiles = o.tiles;
   shapes = o.shapes;
@@ -182,22 +189,22 @@ started scene before true h e o = record {
 }
 
 -- the lines before the first tile, and what they say
-pub record Opens (scene : SceneView) : Type 0 where
-  pub said : AllSaid [] (head_said scene ++ settings_said scene)
-  pub now : Started scene (behind [] (head_said scene ++ settings_said scene))
+pub record Opens (v : ℕ) (scene : SceneView) : Type 0 where
+  pub said : AllSaid [] (head_said v scene ++ settings_said scene)
+  pub now : Started v scene (behind [] (head_said v scene ++ settings_said scene))
 
-pub scene_opens : (scene : SceneView) → IsLawfulScene scene → Opens scene
+pub scene_opens : (v : ℕ) (scene : SceneView) → HasVersion scene v → IsLawfulScene scene → Opens v scene
 unfolding headed backdrop
-scene_opens scene h =
+scene_opens v scene fits h =
     let maxval = maxval_said scene.wide in
     let background = background_said scene.background in
     let order = order_said (is_blending scene.mode) scene.order in
-    let before = behind (headed scene) maxval in
-    let wide = widened scene scene.wide refl in
-    let back = backed scene before (is_clear scene.background) h refl wide in
-    let inner : AllSaid before (background ++ order) = said_append before background order (background_says scene before (is_clear scene.background) h wide.maxval (takes_background scene scene.wide (blends_in before) (has_room before))) (order_says scene (behind before background) (is_blending scene.mode) h refl back) in
-    let place : behind [] (head_said scene ++ settings_said scene) ≡ behind (behind before background) order = behind_append (headed scene) maxval (background ++ order) ∙ behind_append before background order in
+    let before = behind (headed v scene) maxval in
+    let wide = widened v scene scene.wide refl in
+    let back = backed v scene before (is_clear scene.background) h refl wide in
+    let inner : AllSaid before (background ++ order) = said_append before background order (background_says scene before (is_clear scene.background) h wide.maxval (takes_background v scene scene.wide (blends_in before) (has_room before))) (order_says v scene (behind before background) (is_blending scene.mode) h refl back) in
+    let place : behind [] (head_said v scene ++ settings_said scene) ≡ behind (behind before background) order = behind_append (headed v scene) maxval (background ++ order) ∙ behind_append before background order in
     record {
-      said = said_append [] (head_said scene) (settings_said scene) (head_says scene h) (said_append (headed scene) maxval (background ++ order) (maxval_says scene scene.wide refl) inner);
-      now = subst (Started scene) (sym place) (started scene (behind before background) (is_blending scene.mode) h refl back);
+      said = said_append [] (head_said v scene) (settings_said scene) (head_says v scene fits h) (said_append (headed v scene) maxval (background ++ order) (maxval_says v scene fits scene.wide refl) inner);
+      now = subst (Started v scene) (sym place) (started v scene (behind before background) (is_blending scene.mode) h refl back);
     }

@@ -3,7 +3,7 @@ ghost use Rattle.std.specs.Prelude.{◌≡◌, ◌≤◌, [], length};
 ghost use Rattle.icet_model.specs.declared.limits.TheConstants.{MAX_SCENE_BYTES};
 ghost use Rattle.icet_text.specs.Lines.{lines_of};
 ghost use Rattle.icet_scene.specs.Scenes.{IsLawfulScene};
-ghost use Rattle.icet_scene_model.specs.Printed.{printed};
+ghost use Rattle.icet_scene_model.specs.Printed.{printed, upgraded};
 ghost use Rattle.icet_scene_model.specs.Scene.{SceneView};
 ghost use Rattle.icet_scene_model.specs.Texts.{SceneText, text_behind, text_is};
 
@@ -11,4 +11,10 @@ ghost use Rattle.icet_scene_model.specs.Texts.{SceneText, text_behind, text_is};
 pub fn printed_scenes_are_read_again()
     ensures again { (scene : SceneView) → IsLawfulScene scene → text_behind [] 1 (lines_of (printed scene)) ≡ SceneText scene }
     ensures text { (scene : SceneView) → IsLawfulScene scene → length (printed scene) ≤ MAX_SCENE_BYTES → text_is (printed scene) ≡ SceneText scene }
+{}
+
+/// So is its text of version 2, which is written where its shapes are ready drawn.
+pub fn upgraded_scenes_are_read_again()
+    ensures again { (scene : SceneView) → IsLawfulScene scene → text_behind [] 1 (lines_of (upgraded scene)) ≡ SceneText scene }
+    ensures text { (scene : SceneView) → IsLawfulScene scene → length (upgraded scene) ≤ MAX_SCENE_BYTES → text_is (upgraded scene) ≡ SceneText scene }
 {}

@@ -6,4 +6,4 @@ mod lines;
 mod numbers;
 pub mod printing;
 
-pub use printing::print;
+pub use printing::{print, write_upgrade};

@@ -6,7 +6,7 @@ ghost use Rattle.icet_raster.specs.Shapes.{drawing_of};
 ghost use Rattle.icet_scene.specs.Lines.{placed_of};
 ghost use Rattle.icet_scene_model.specs.Lawful.{is_blending};
 ghost use Rattle.icet_scene_model.specs.Scene.{Draws, EndIs, TileIs};
-ghost use Rattle.icet_scene_model.specs.Printed.{background_said, body_said, head_said, is_clear, is_span, lines_text, maxval_said, needs_second_version, order_said, printed, settings_said, version_of};
+ghost use Rattle.icet_scene_model.specs.Printed.{background_said, body_said, head_said, is_clear, is_span, lines_text, maxval_said, needs_second_version, order_said, printed, settings_said, text_in, upgraded, version_of};
 
 use crate::lines::{
     put_background, put_count, put_maxval, put_mode, put_order, put_shape, put_tile, put_version,
@@ -28,28 +28,47 @@ use icet_tiles::Layout;
 pub fn print<K: Sink>(sink: &mut K, scene: &Scene) -> Result<(), WriteFault>
     ensures { WritesAll (K.told sink.old) (K.told sink.new) result (printed scene.now) }
 {
+    write_text(sink, version_of(scene), scene)
+}
+
+/// Writes the text of a scene whose shapes are ready drawn: the same lines in the same order, in version 2 whatever the
+/// scene needs. The sink is flushed once.
+///
+/// # Errors
+///
+/// `WriteFault`; the sink holds a front of the text behind what was written before.
+pub fn write_upgrade<K: Sink>(sink: &mut K, ready: &Scene) -> Result<(), WriteFault>
+    ensures { WritesAll (K.told sink.old) (K.told sink.new) result (upgraded ready.now) }
+{
+    write_text(sink, 2, ready)
+}
+
+/// Writes a scene's text of a version.
+fn write_text<K: Sink>(sink: &mut K, version: u32, scene: &Scene) -> Result<(), WriteFault>
+    ensures { WritesAll (K.told sink.old) (K.told sink.new) result (text_in version scene.now) }
+{
     let mut pen = Pen::new(sink);
-    put_scene(&mut pen, scene)?;
+    put_scene(&mut pen, version, scene)?;
     pen.finish()
 }
 
 #[tactic(auto, using(crate::proofs::LinePieces::lines_then, crate::proofs::LinePieces::lines_failed))]
-fn put_scene<K: Sink>(pen: &mut Pen<'_, K>, scene: &Scene) -> Result<(), WriteFault>
+fn put_scene<K: Sink>(pen: &mut Pen<'_, K>, version: u32, scene: &Scene) -> Result<(), WriteFault>
     requires { pen.old.failed ≡ false }
-    ensures { Puts K.told pen.old pen.new result (printed scene.now) }
+    ensures { Puts K.told pen.old pen.new result (text_in version scene.now) }
 {
-    put_head(pen, scene)?;
+    put_head(pen, version, scene)?;
     put_settings(pen, scene)?;
     put_body(pen, scene)
 }
 
 /// The lines that every text begins with.
 #[tactic(auto, using(crate::proofs::LinePieces::lines_then, crate::proofs::LinePieces::lines_failed, crate::proofs::LinePieces::one_line))]
-fn put_head<K: Sink>(pen: &mut Pen<'_, K>, scene: &Scene) -> Result<(), WriteFault>
+fn put_head<K: Sink>(pen: &mut Pen<'_, K>, version: u32, scene: &Scene) -> Result<(), WriteFault>
     requires { pen.old.failed ≡ false }
-    ensures { Puts K.told pen.old pen.new result (lines_text (head_said scene.now)) }
+    ensures { Puts K.told pen.old pen.new result (lines_text (head_said version scene.now)) }
 {
-    put_version(pen, version_of(scene))?;
+    put_version(pen, version)?;
     put_mode(pen, is_blending(scene.mode))?;
     put_count(pen, scene.ranks)
 }

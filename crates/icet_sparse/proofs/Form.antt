@@ -9,16 +9,16 @@ use Rattle.icet_sparse.specs.Runs.{drawn_in, run_pixels, strip_pixels, run_count
 use Rattle.icet_sparse.proofs.Walking.{run}
 use Rattle.icet_sparse.proofs.Growing.{drawn_within}
 
-fragments_append : (ps qs : List Pixel) → fragments_of (ps ++ qs) ≡ fragments_of ps ++ fragments_of qs
+pub fragments_append : (ps qs : List Pixel) → fragments_of (ps ++ qs) ≡ fragments_of ps ++ fragments_of qs
 fragments_append [] qs = refl
 fragments_append (None ∷ ps) qs = fragments_append ps qs
 fragments_append (Some f ∷ ps) qs = ap (λ l. f ∷ l) (fragments_append ps qs)
 
-fragments_blank : (n : ℕ) → fragments_of (replicate n None) ≡ []
+pub fragments_blank : (n : ℕ) → fragments_of (replicate n None) ≡ []
 fragments_blank zero = refl
 fragments_blank (suc n) = fragments_blank n
 
-fragments_drawn : (fs : List FragmentView) → fragments_of (map Some fs) ≡ fs
+pub fragments_drawn : (fs : List FragmentView) → fragments_of (map Some fs) ≡ fs
 fragments_drawn [] = refl
 fragments_drawn (f ∷ fs) = ap (λ l. f ∷ l) (fragments_drawn fs)
 

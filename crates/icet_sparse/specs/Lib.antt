@@ -1,2 +1,4 @@
+pub mod Joined
 pub mod Runs
+pub mod Shared
 pub mod Sparse

@@ -1,7 +1,8 @@
 ghost use Rattle.std.specs.Prelude.{◌≡◌, ℕ, List, ◌+◌, ◌-◌, ◌*◌, ◌<◌, ◌≤◌, ◌^◌, ◌++◌, ◌↔◌, IfOk, OnOk, OnErr, IsTrue, None, length, take, drop, get_or, replicate};
 ghost use Rattle.icet_sparse.specs.Sparse.{IsPiece};
-ghost use Rattle.icet_sparse.specs.Runs.{weight_of};
+ghost use Rattle.icet_sparse.specs.Runs.{fragments_of, weight_of};
 
+use crate::shared::SharedStrip;
 use crate::strip::Strip;
 use crate::walk::Walk;
 use icet_base::NoMemory;
@@ -15,7 +16,7 @@ pub struct Sparse {
     tile: u32,
     lo: u32,
     hi: u32,
-    pixels: Strip,
+    pixels: SharedStrip,
 }
 
 impl Model for Sparse {
@@ -38,11 +39,21 @@ impl Sparse {
         ensures { IfOk result (λ s. s ≡ record { tile = tile; lo = 0; hi = length cells.now; content = cells.now }) }
     {
         let pixels = Strip::of(alloc, cells)?;
-        Ok(Sparse::from_strip(tile, 0, cells.len() as u32, pixels))
+        Sparse::from_strip(tile, 0, cells.len() as u32, pixels)
     }
 
-    /// The piece with these pixels. Condition: there are as many as positions.
-    pub fn from_strip(tile: u32, lo: u32, hi: u32, pixels: Strip) -> Sparse
+    /// The piece with these pixels, whose fragments are moved. Condition: there are as many as positions.
+    pub fn from_strip(tile: u32, lo: u32, hi: u32, pixels: Strip) -> Result<Sparse, NoMemory>
+        requires ordered { lo ≤ hi }
+        requires size { length pixels ≡ hi - lo }
+        ensures { IfOk result (λ s. s ≡ record { tile = tile; lo = lo; hi = hi; content = pixels }) }
+    {
+        let pixels = pixels.into_shared()?;
+        Ok(Sparse::with(tile, lo, hi, pixels))
+    }
+
+    /// The piece with these pixels.
+    fn with(tile: u32, lo: u32, hi: u32, pixels: SharedStrip) -> Sparse
         requires ordered { lo ≤ hi }
         requires size { length pixels ≡ hi - lo }
         ensures { result ≡ record { tile = tile; lo = lo; hi = hi; content = pixels } }
@@ -60,7 +71,7 @@ impl Sparse {
         requires { lo ≤ hi }
         ensures { result ≡ record { tile = tile; lo = lo; hi = hi; content = replicate (hi - lo) None } }
     {
-        Sparse::from_strip(tile, lo, hi, Strip::blank(alloc, hi - lo))
+        Sparse::with(tile, lo, hi, SharedStrip::blank(alloc, hi - lo))
     }
 
     /// The number of the tile.
@@ -106,6 +117,13 @@ impl Sparse {
         walk.next_pixel()
     }
 
+    /// How many pixels are drawn.
+    pub fn drawn(&self) -> u32
+        ensures { result ≡ length (fragments_of self.now.content) }
+    {
+        self.pixels.drawn()
+    }
+
     /// 8 for each maximal run of drawn pixels, and 8 for each drawn pixel.
     pub fn weight(&self) -> u64
         ensures { result ≡ weight_of self.now.content }
@@ -124,26 +142,24 @@ impl Sparse {
             && self.pixels.same(&other.pixels)
     }
 
-    /// An equal piece.
+    /// An equal piece, which shares the fragments.
     pub fn copy(&self, alloc: Global) -> Result<Sparse, NoMemory>
         ensures { IfOk result (λ s. s ≡ self.now) }
     {
         let pixels = self.pixels.copy(alloc)?;
-        Ok(Sparse::from_strip(self.tile, self.lo, self.hi, pixels))
+        Ok(Sparse::with(self.tile, self.lo, self.hi, pixels))
     }
 
-    /// The piece of the positions from `lo` up to `hi`. Condition: they are some of this piece's.
+    /// The piece of the positions from `lo` up to `hi`, which shares their fragments. Condition: they are some of this
+    /// piece's.
     pub fn part(&self, alloc: Global, lo: u32, hi: u32) -> Result<Sparse, NoMemory>
         requires lo { self.now.lo ≤ lo }
         requires ordered { lo ≤ hi }
         requires hi { hi ≤ self.now.hi }
         ensures { IfOk result (λ s. s ≡ record { tile = self.now.tile; lo = lo; hi = hi; content = take (hi - lo) (drop (lo - self.now.lo) self.now.content) }) }
     {
-        let mut walk = self.walk();
-        walk.skip(lo - self.lo());
-        let mut pixels = Strip::new(alloc);
-        pixels.append(&mut walk, hi - lo)?;
-        Ok(Sparse::from_strip(self.tile(), lo, hi, pixels))
+        let pixels = self.pixels.part(alloc, lo - self.lo, hi - lo)?;
+        Ok(Sparse::with(self.tile, lo, hi, pixels))
     }
 
     /// Cuts the piece at a position: it keeps what is below, and the answer is what is above.
@@ -171,6 +187,6 @@ impl Sparse {
         let mut pixels = Strip::new(alloc);
         pixels.append(&mut front.walk(), front.hi() - front.lo())?;
         pixels.append(&mut back.walk(), back.hi() - back.lo())?;
-        Ok(Sparse::from_strip(front.tile(), front.lo(), back.hi(), pixels))
+        Sparse::from_strip(front.tile(), front.lo(), back.hi(), pixels)
     }
 }

@@ -1,10 +1,13 @@
 ghost use Rattle.std.specs.Prelude.{◌≡◌, ℕ, List, [], ◌∷◌, ◌+◌, ◌-◌, ◌*◌, ◌<◌, ◌≤◌, ◌^◌, ◌++◌, IfOk, OnOk, OnErr, IsTrue, ◌↔◌, take, drop, Some, None, length, map, replicate, vec_len, vec_capacity};
-ghost use Rattle.icet_sparse.specs.Runs.{drawn_in, lengthened, weight_of};
+ghost use Rattle.icet_sparse.specs.Joined.{joined_places};
+ghost use Rattle.icet_sparse.specs.Runs.{drawn_in, lengthened};
 
+use crate::fragments::Fragments;
 use crate::run::Run;
+use crate::shared::SharedStrip;
 use crate::walk::Walk;
-use icet_base::NoMemory;
-use icet_pixel::{Fragment, Pixel};
+use icet_base::{Mode, NoMemory};
+use icet_pixel::{Fragment, Pixel, join_fragments};
 use std::alloc::Global;
 use std::marker::Model;
 
@@ -51,15 +54,24 @@ impl Strip {
         }
     }
 
+    /// No pixels yet, and memory for so many drawn ones.
+    pub fn with_room(alloc: Global, count: usize) -> Result<Strip, NoMemory>
+        ensures { IfOk result (λ s. s ≡ []) }
+    {
+        Ok(Strip {
+            runs: Vec::new(alloc),
+            fragments: Vec::with_capacity(alloc, count)?,
+            behind: 0,
+        })
+    }
+
     /// These pixels. Condition: there are fewer than 2^32.
     pub fn of(alloc: Global, pixels: &[Pixel]) -> Result<Strip, NoMemory>
         requires { length pixels.now < 2 ^ 32 }
         ensures { IfOk result (λ s. s ≡ pixels.now) }
     {
-        let mut strip = Strip::new(alloc);
-        for pixel in pixels {
-            strip.push_pixel(*pixel)?;
-        }
+        let mut strip = Strip::with_room(alloc, count_drawn(pixels))?;
+        strip.push_pixels(pixels)?;
         Ok(strip)
     }
 
@@ -100,6 +112,30 @@ impl Strip {
         Ok(())
     }
 
+    /// Puts drawn pixels at the end: the fragments of `front`, each joined in front of the one of `back` at its place.
+    /// Condition: there are equally many. Want of memory leaves the strip as it was.
+    pub fn push_joined(
+        &mut self,
+        mode: Mode,
+        front: &[Fragment],
+        back: &[Fragment],
+    ) -> Result<(), NoMemory>
+        requires size { length front.now ≡ length back.now }
+        requires room { length self.old + length front.now < 2 ^ 32 }
+        ensures grown { OnOk result (self.new ≡ self.old ++ map Some (joined_places mode front.now back.now)) }
+        ensures same { OnErr result (self.new ≡ self.old) }
+    {
+        if front.is_empty() {
+            return Ok(());
+        }
+        self.runs.reserve(1)?;
+        self.fragments.reserve(front.len())?;
+        put_joined(&mut self.fragments, mode, front, back);
+        lengthen(&mut self.runs, self.behind, front.len() as u32);
+        self.behind = 0;
+        Ok(())
+    }
+
     /// Puts a pixel at the end. Want of memory leaves the strip as it was.
     pub fn push_pixel(&mut self, pixel: Pixel) -> Result<(), NoMemory>
         requires { length self.old + 1 < 2 ^ 32 }
@@ -113,6 +149,17 @@ impl Strip {
                 Ok(())
             }
         }
+    }
+
+    /// Puts pixels at the end.
+    pub fn push_pixels(&mut self, pixels: &[Pixel]) -> Result<(), NoMemory>
+        requires { length self.old + length pixels.now < 2 ^ 32 }
+        ensures { OnOk result (self.new ≡ self.old ++ pixels.now) }
+    {
+        for pixel in pixels {
+            self.push_pixel(*pixel)?;
+        }
+        Ok(())
     }
 
     /// Puts the next `count` pixels of a walk at the end, run by run, and walks over them. Condition: so
@@ -140,42 +187,17 @@ impl Strip {
         Walk::over(self.runs.as_slice(), self.fragments.as_slice(), self.behind)
     }
 
-    /// An equal strip.
-    pub fn copy(&self, alloc: Global) -> Result<Strip, NoMemory>
-        ensures { IfOk result (λ s. s ≡ self.now) }
+    /// The same pixels, which grow no more; their fragments are moved, and may be shared then.
+    pub fn into_shared(self) -> Result<SharedStrip, NoMemory>
+        ensures { IfOk result (λ s. s ≡ self) }
     {
-        let runs = Vec::from_slice(alloc, self.runs.as_slice())?;
-        let fragments = Vec::from_slice(alloc, self.fragments.as_slice())?;
-        Ok(Strip {
-            runs,
-            fragments,
-            behind: self.behind,
-        })
-    }
-
-    /// Whether both have the same pixels; it compares runs and fragments.
-    pub fn same(&self, other: &Strip) -> bool
-        ensures { IsTrue result ↔ (self.now ≡ other.now) }
-    {
-        if self.behind != other.behind {
-            return false;
-        }
-        if self.runs != other.runs {
-            return false;
-        }
-        self.fragments == other.fragments
-    }
-
-    /// 8 for each maximal run of drawn pixels, and 8 for each drawn pixel.
-    pub fn weight(&self) -> u64
-        ensures { result ≡ weight_of self.now }
-    {
-        8 * self.runs.len() as u64 + 8 * self.fragments.len() as u64
+        let fragments = Fragments::of(self.fragments)?;
+        Ok(SharedStrip::with(self.runs, fragments, self.behind))
     }
 }
 
 /// Puts `drawn` drawn pixels behind `blank` blank ones at the end of the runs.
-fn lengthen(runs: &mut Vec<Run>, blank: u32, drawn: u32)
+pub(crate) fn lengthen(runs: &mut Vec<Run>, blank: u32, drawn: u32)
     requires room { vec_len runs.old < vec_capacity runs.old }
     requires sum { drawn_in runs.old.items + drawn < 2 ^ 32 }
     ensures { runs.new.items ≡ lengthened runs.old.items blank drawn }
@@ -186,4 +208,21 @@ fn lengthen(runs: &mut Vec<Run>, blank: u32, drawn: u32)
     } else {
         runs.push_reserved(Run { blank, drawn });
     }
+}
+
+/// Puts fragments at the end, each of `front` joined in front of the one of `back` at its place. Conditions: there are
+/// equally many, and room for them.
+fn put_joined(fragments: &mut Vec<Fragment>, mode: Mode, front: &[Fragment], back: &[Fragment])
+    requires size { length front.now ≡ length back.now }
+    requires room { vec_len fragments.old + length front.now ≤ vec_capacity fragments.old }
+    ensures { fragments.new.items ≡ fragments.old.items ++ joined_places mode front.now back.now }
+{
+    for i in 0..front.len() {
+        fragments.push_reserved(join_fragments(mode, front[i], back[i]));
+    }
+}
+
+/// How many of the pixels are drawn, by which memory is reserved.
+fn count_drawn(pixels: &[Pixel]) -> usize {
+    pixels.iter().filter(|pixel| pixel.is_some()).count()
 }

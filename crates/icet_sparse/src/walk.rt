@@ -1,6 +1,6 @@
 ghost use Rattle.std.specs.Prelude.{◌≡◌, ◌+◌, ◌<◌, ◌≤◌, ◌^◌, ◌∷◌, ◌++◌, Some, None, length, map, replicate, drop};
 ghost use Rattle.std.specs.List.{All};
-ghost use Rattle.icet_sparse.specs.Runs.{drawn_in, strip_pixels, Begins};
+ghost use Rattle.icet_sparse.specs.Runs.{drawn_in, fragments_of, strip_pixels, Begins};
 
 use crate::run::Run;
 use icet_pixel::{Fragment, Pixel};
@@ -69,6 +69,13 @@ impl<'a> Walk<'a> {
             behind,
         };
         Walk { runs, fragments }
+    }
+
+    /// How many drawn pixels are to come.
+    pub(crate) fn fragments_left(&self) -> usize
+        ensures { result ≡ length (fragments_of self.now) }
+    {
+        self.fragments.len()
     }
 
     /// Walks over the next stretch, which has at least one pixel and at most `most`. Condition: some

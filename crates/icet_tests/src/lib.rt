@@ -18,3 +18,4 @@ mod pieces;
 mod samples;
 #[cfg(test)]
 mod shapes;
+pub mod stepping;

@@ -2,7 +2,7 @@
 ghost use Rattle.std.specs.Prelude.{◌≤◌};
 
 use icet_base::{Mode, NoMemory};
-use icet_interlace::{interlace, restore};
+use icet_interlace::{interlace, pixel_at, place, restore};
 use icet_merge::merge;
 use icet_pixel::{Fragment, Pixel};
 use icet_sparse::Sparse;
@@ -98,7 +98,8 @@ fn stands_in_strands(alloc: Global) -> Result<bool, NoMemory> {
     let stated = Sparse::of(alloc, 0, &in_strands)?;
     let interlaced = interlace(alloc, &image, 3)?;
     let restored = restore(alloc, &interlaced, 3)?;
-    Ok(interlaced.same(&stated) && restored.same(&image))
+    let is_sixth = place(6, 7, 3) == 2 && pixel_at(2, 7, 3) == 6;
+    Ok(interlaced.same(&stated) && restored.same(&image) && is_sixth)
 }
 
 #[test]

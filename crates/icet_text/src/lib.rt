@@ -4,6 +4,7 @@
 
 pub mod examples;
 pub mod field;
+pub mod first_number;
 pub mod laws;
 pub mod lines;
 pub mod numbers;

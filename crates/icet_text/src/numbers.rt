@@ -4,6 +4,7 @@ ghost use Rattle.icet_text.specs.Numbers.{numbers_in, sizes_in, size_at, signed_
 ghost use Rattle.icet_text.specs.Words.{words_behind};
 
 use crate::field::{Field, Number};
+use crate::first_number::split_number;
 use crate::numeral::number;
 use crate::words::split_word;
 use arrayvec::ArrayVec;
@@ -41,8 +42,8 @@ pub fn lead<'a>(
     let mut values = ArrayVec::new();
     let mut rest = words;
     for field in fields {
-        let (word, behind) = split_word(rest?);
-        values.push(number(*field, word)?);
+        let (number, behind) = split_number(*field, rest?)?;
+        values.push(number);
         rest = behind;
     }
     Some((values, rest))

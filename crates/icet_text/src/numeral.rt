@@ -42,7 +42,8 @@ pub fn number(field: Field, word: &[u8]) -> Option<Number>
     Some(Number { is_negative, size })
 }
 
-fn begins_with(word: &[u8], byte: u8) -> bool
+/// Whether this byte stands first.
+pub fn begins_with(word: &[u8], byte: u8) -> bool
     ensures { result ≡ begins_with byte word.now }
 {
     match word {
@@ -68,7 +69,8 @@ fn is_natural(word: &[u8]) -> bool
     starts_well(word) && are_digits(word)
 }
 
-fn starts_well(word: &[u8]) -> bool
+/// Whether there is a first digit, and no further one behind a leading 0.
+pub fn starts_well(word: &[u8]) -> bool
     ensures { result ≡ starts_well word.now }
 {
     match word {

@@ -3,7 +3,7 @@ ghost use Rattle.std.specs.Option.{option_copied};
 ghost use Rattle.icet_text.specs.Lines.{words_of};
 ghost use Rattle.icet_text.specs.Words.{words_behind, counted};
 
-use crate::numeral::is_numeral;
+use crate::first_number::behind_numeral;
 
 /// The first word of a line, and what is behind the space that ends it.
 pub fn split_word(line: &[u8]) -> (&[u8], Option<&[u8]>)
@@ -31,12 +31,8 @@ pub fn count_numerals(words: Option<&[u8]>) -> Option<usize>
     let mut count = 0usize;
     let mut rest = words;
     while let Some(line) = rest {
-        let (word, behind) = split_word(line);
-        if !is_numeral(word) {
-            return None;
-        }
+        rest = behind_numeral(line)?;
         count += 1;
-        rest = behind;
     }
     Some(count)
 }

@@ -1,11 +1,12 @@
-ghost use Rattle.std.specs.Prelude.{◌≡◌, ◌≢◌, ◌↔◌, ◌<◌, ◌≤◌, ◌==◌, IsTrue, All, AllPairs, Some, length, map, slice_get, take};
+ghost use Rattle.std.specs.Prelude.{◌≡◌, ◌≢◌, ◌↔◌, ◌<◌, ◌≤◌, ◌==◌, IsTrue, All, AllPairs, IfOk, Some, length, map, slice_get, take};
 ghost use Rattle.std.specs.List.{list_any};
 ghost use Rattle.icet_model.specs.declared.limits.TheConstants.{MAX_TILES};
 ghost use Rattle.icet_model.specs.Tiles.{IsTileArea, IsLayout as IsLayoutOfViews};
 ghost use Rattle.icet_tiles.specs.Layouts.{IsLayout, IsSide};
 
 use icet_base::limits::{MAX_PLACE, MAX_SIDE, MAX_TILES};
-use icet_base::{Rank, Rect};
+use icet_base::{NoMemory, Rank, Rect};
+use std::alloc::Global;
 use std::marker::Model;
 
 /// A rectangle of the display, and the rank that hands it out in the end.
@@ -62,6 +63,18 @@ impl Layout {
         ensures area { IsTileArea result.area }
     {
         self.tiles[t as usize]
+    }
+
+    /// An equal layout.
+    ///
+    /// # Errors
+    ///
+    /// `NoMemory`.
+    pub fn copy(&self, alloc: Global) -> Result<Layout, NoMemory>
+        ensures { IfOk result (λ layout. layout ≡ self.now) }
+    {
+        let tiles = Vec::from_slice(alloc, self.tiles.as_slice())?;
+        Ok(Layout { tiles })
     }
 }
 

@@ -29,7 +29,7 @@ with_cap q = required_word (codes "job")
     ∷ record (option_or (codes "cap") (codes "4")) { parser = Some q }
     ∷ number_or (codes "workers") (codes "2") 1 16
     ∷ number_or (codes "burst") (codes "16") 1 1024
-    ∷ number_or (codes "strands") (codes "1") 1 1
+    ∷ number_or (codes "strands") (codes "1") 1 64
     ∷ option (codes "schedule")
     ∷ number_or (codes "seed") (codes "1") 0 18446744073709551615
     ∷ []

@@ -17,7 +17,7 @@ use Rattle.icet_words.specs.CommandLine.{command_from, found_unless, icet, optio
 use Rattle.icet_words.specs.Full.{Texts, are_in_range, in_full, name_of, read_each, words_in_full}
 use Rattle.icet_words.proofs.Readings.{reading_is}
 use Rattle.icet_words.specs.declared.job.Job.{Job}
-use Rattle.icet_words.specs.declared.job.Job.TheVariants.{Composite, Traffic, Plan, Replay, Summary, Demo}
+use Rattle.icet_words.specs.declared.job.Job.TheVariants.{Composite, Traffic, Plan, Replay, Summary, Demo, Upgrade}
 
 abbrev by : Text → Text → ValueParser → Rule
 by name plain q = record (option_or name plain) { parser = Some q }
@@ -80,6 +80,7 @@ faults q1 q2 q3 q4 q5 q6 Plan t = refl
 faults q1 q2 q3 q4 q5 q6 Replay t = refl
 faults q1 q2 q3 q4 q5 q6 Summary t = refl
 faults q1 q2 q3 q4 q5 q6 Demo t = refl
+faults q1 q2 q3 q4 q5 q6 Upgrade t = refl
 
 values : (job : Job) (t : Texts) → command_from (matches_of icet (words_in_full (name_of job) t)) ≡ read_each job t
 unfolding clap_on_literals
@@ -89,6 +90,7 @@ values Plan t = refl
 values Replay t = refl
 values Summary t = refl
 values Demo t = refl
+values Upgrade t = refl
 
 chosen : (b : Bool) (job : Job) (t : Texts) (rows : List Row) → command_from rows ≡ read_each job t → option_and_then command_from (cond b (Some rows) None) ≡ cond b (read_each job t) None
 chosen true job t rows e = e
@@ -98,8 +100,8 @@ pub reading_in_full : (job : Job) (t : Texts) → reading (words_in_full (name_o
 reading_in_full job t =
     let words = words_in_full (name_of job) t in
     let q : ℕ → ℕ → ValueParser = parser.Unsigned in
-    let ps = tests (q 2 64) (q 1 64) (q 1 16) (q 1 1024) (q 1 1) (q 0 18446744073709551615) t in
+    let ps = tests (q 2 64) (q 1 64) (q 1 16) (q 1 1024) (q 1 64) (q 0 18446744073709551615) t in
     reading_is words
-    ∙ ap (λ f. option_and_then command_from (found_unless f (matches_of icet words))) (faults (q 2 64) (q 1 64) (q 1 16) (q 1 1024) (q 1 1) (q 0 18446744073709551615) job t)
+    ∙ ap (λ f. option_and_then command_from (found_unless f (matches_of icet words))) (faults (q 2 64) (q 1 64) (q 1 16) (q 1 1024) (q 1 64) (q 0 18446744073709551615) job t)
     ∙ ap (option_and_then command_from) (nest_passes ps (matches_of icet words))
     ∙ chosen (are_in_range t) job t (matches_of icet words) (values job t)

@@ -12,10 +12,10 @@ use Rattle.clap.specs.Faults.{fault_of}
 use Rattle.clap.specs.Kinds.{Kinds}
 use Rattle.clap.specs.declared.builder.value_parser.ValueParser.TheVariants as parser
 use Rattle.icet_words.specs.Schedules.{schedule_of}
-use Rattle.icet_model.specs.declared.limits.TheConstants.{MIN_RADIX, MAX_RADIX, MAX_CAPACITY, MAX_WORKERS, MAX_BURST}
+use Rattle.icet_model.specs.declared.limits.TheConstants.{MIN_RADIX, MAX_RADIX, MAX_CAPACITY, MAX_WORKERS, MAX_BURST, MAX_STRANDS}
 use Rattle.icet_words.specs.declared.job.Job.{Job}
 use Rattle.icet_multi.specs.declared.settings.Settings.{Settings}
-use Rattle.icet_words.specs.declared.job.Job.TheVariants.{Composite, Traffic, Plan, Replay, Summary, Demo}
+use Rattle.icet_words.specs.declared.job.Job.TheVariants.{Composite, Traffic, Plan, Replay, Summary, Demo, Upgrade}
 use Rattle.icet_multi.specs.declared.settings.Strategy.{Strategy}
 use Rattle.icet_multi.specs.declared.settings.Strategy.TheVariants.{Sequential, Direct, Reduce}
 use Rattle.icet_multi.specs.declared.settings.Single.{Single}
@@ -45,7 +45,7 @@ arguments = required_word (codes "job")
     ∷ number_or (codes "cap") (codes "4") 1 MAX_CAPACITY
     ∷ number_or (codes "workers") (codes "2") 1 MAX_WORKERS
     ∷ number_or (codes "burst") (codes "16") 1 MAX_BURST
-    ∷ number_or (codes "strands") (codes "1") 1 1
+    ∷ number_or (codes "strands") (codes "1") 1 MAX_STRANDS
     ∷ option (codes "schedule")
     ∷ number_or (codes "seed") (codes "1") 0 18446744073709551615
     ∷ []
@@ -82,7 +82,8 @@ job_of word = cond (is (codes "composite") word) (Some Composite)
     (cond (is (codes "plan") word) (Some Plan)
     (cond (is (codes "replay") word) (Some Replay)
     (cond (is (codes "summary") word) (Some Summary)
-    (cond (is (codes "demo") word) (Some Demo) None)))))
+    (cond (is (codes "demo") word) (Some Demo)
+    (cond (is (codes "upgrade") word) (Some Upgrade) None))))))
 
 abbrev pub strategy_of : Text → Option Strategy
 strategy_of word = cond (is (codes "sequential") word) (Some Sequential)
@@ -134,7 +135,7 @@ pub record IsInRange (c : Command) : Type 0 where
   pub cap : (1 ≤ c.cap) × (c.cap ≤ MAX_CAPACITY)
   pub workers : (1 ≤ c.workers) × (c.workers ≤ MAX_WORKERS)
   pub burst : (1 ≤ c.burst) × (c.burst ≤ MAX_BURST)
-  pub strands : (1 ≤ c.strands) × (c.strands ≤ 1)
+  pub strands : (1 ≤ c.strands) × (c.strands ≤ MAX_STRANDS)
   pub seed : c.seed ≤ 18446744073709551615
 
 -- digits were found under a name
@@ -153,5 +154,5 @@ pub record HasNumbers (rows : List Row) : Type 0 where
   pub cap : HasNumber (codes "cap") 1 MAX_CAPACITY rows
   pub workers : HasNumber (codes "workers") 1 MAX_WORKERS rows
   pub burst : HasNumber (codes "burst") 1 MAX_BURST rows
-  pub strands : HasNumber (codes "strands") 1 1 rows
+  pub strands : HasNumber (codes "strands") 1 MAX_STRANDS rows
   pub seed : HasNumber (codes "seed") 0 18446744073709551615 rows

@@ -7,7 +7,7 @@ use Rattle.clap.specs.ValueTests.{is_unsigned_in}
 use Rattle.icet_words.specs.Schedules.{schedule_of}
 use Rattle.icet_words.specs.CommandLine.{Command, settings_from, single_of, strategy_of}
 use Rattle.icet_words.specs.declared.job.Job.{Job}
-use Rattle.icet_words.specs.declared.job.Job.TheVariants.{Composite, Traffic, Plan, Replay, Summary, Demo}
+use Rattle.icet_words.specs.declared.job.Job.TheVariants.{Composite, Traffic, Plan, Replay, Summary, Demo, Upgrade}
 
 -- the texts of the values
 pub record Texts : Type 0 where
@@ -28,6 +28,7 @@ name_of Plan = codes "plan"
 name_of Replay = codes "replay"
 name_of Summary = codes "summary"
 name_of Demo = codes "demo"
+name_of Upgrade = codes "upgrade"
 
 abbrev pub words_in_full : Text → Texts → List Text
 words_in_full job t = job
@@ -45,7 +46,7 @@ words_in_full job t = job
 -- each number is one of its range; a plus may stand before its digits, and zeros
 abbrev pub are_in_range : Texts → Bool
 are_in_range t = is_unsigned_in 2 64 t.k && (is_unsigned_in 1 64 t.cap && (is_unsigned_in 1 16 t.workers && (is_unsigned_in 1 1024 t.burst
-    && (is_unsigned_in 1 1 t.strands && is_unsigned_in 0 18446744073709551615 t.seed))))
+    && (is_unsigned_in 1 64 t.strands && is_unsigned_in 0 18446744073709551615 t.seed))))
 
 abbrev pub value : Text → ℕ
 value text = digits_value 10 (without_leading_plus text)

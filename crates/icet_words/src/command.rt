@@ -78,10 +78,10 @@ impl Command {
         self.burst
     }
 
-    /// How many strands an image has.
+    /// To how many strands the pixels of an image are dealt out.
     pub fn strands(&self) -> u32
         ensures value { result ≡ self.now.strands }
-        ensures range { result ≡ 1 }
+        ensures range { (1 ≤ result) × (result ≤ 64) }
     {
         self.strands
     }
@@ -213,6 +213,8 @@ fn job_of(word: &str) -> Option<Job>
         Some(Job::Summary)
     } else if word == "demo" {
         Some(Job::Demo)
+    } else if word == "upgrade" {
+        Some(Job::Upgrade)
     } else {
         None
     }

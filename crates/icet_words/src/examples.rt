@@ -14,12 +14,15 @@ pub fn taken()
     ensures alone { typed (codes "composite") ≡ Some (plain Composite) }
     ensures before { typed (codes "--strategy=sequential composite") ≡ Some (planned Sequential 8 (plain Composite)) }
     ensures two { typed (codes "composite --cap=64 --k 2") ≡ Some (planned Reduce 2 (capped 64)) }
+    ensures strands { typed (codes "composite --strands=64") ≡ Some (record (plain Composite) { strands = 64 }) }
     ensures schedule { typed (codes "replay --schedule 3,1") ≡ Some (record (plain Replay) { schedule = 3 ∷ 1 ∷ [] }) }
 {}
 
 /// Words that are none.
 pub fn refused()
     ensures range { typed (codes "composite --cap 65") ≡ None }
+    ensures strands { typed (codes "composite --strands 65") ≡ None }
+    ensures none { typed (codes "composite --strands 0") ≡ None }
     ensures twice { typed (codes "composite --cap 2 --cap 2") ≡ None }
     ensures help { typed (codes "--help") ≡ None }
     ensures schedule { typed (codes "composite --schedule 1,,2") ≡ None }

@@ -13,4 +13,6 @@ pub enum Job {
     Summary,
     /// The summary of a scene that is made from a seed.
     Demo,
+    /// The scene's text with its shapes ready drawn.
+    Upgrade,
 }

@@ -7,7 +7,7 @@ use clap::builder::ValueParser;
 use clap::error::ErrorKind;
 use clap::{Arg, ArgAction, ArgMatches, Command};
 use icet_base::NoMemory;
-use icet_base::limits::{MAX_BURST, MAX_CAPACITY, MAX_RADIX, MAX_WORKERS, MIN_RADIX};
+use icet_base::limits::{MAX_BURST, MAX_CAPACITY, MAX_RADIX, MAX_STRANDS, MAX_WORKERS, MIN_RADIX};
 use std::alloc::{AllocError, Global};
 
 fn required_word<'a>(alloc: Global, name: &'a str) -> Arg<'a>
@@ -52,7 +52,7 @@ fn command_line<'a>(alloc: Global) -> Result<Command<'a>, AllocError>
         .arg(number_or(alloc, "cap", "4", 1, MAX_CAPACITY as u64))?
         .arg(number_or(alloc, "workers", "2", 1, MAX_WORKERS as u64))?
         .arg(number_or(alloc, "burst", "16", 1, MAX_BURST as u64))?
-        .arg(number_or(alloc, "strands", "1", 1, 1))?
+        .arg(number_or(alloc, "strands", "1", 1, MAX_STRANDS as u64))?
         .arg(option(alloc, "schedule"))?
         .arg(number_or(alloc, "seed", "1", 0, u64::MAX))
 }

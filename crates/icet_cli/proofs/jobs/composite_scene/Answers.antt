@@ -17,7 +17,7 @@ returns-in_err-write_pictures-clause-ends g c =
       scene = scene;
       valid = refl;
       wrote = subst (WritesAll (g.K.Sink.told c.args.sink.now) (g.K.Sink.told c.write_pictures.new.sink) (Err c.in_err-write_pictures.field-0.0)) text c.in_err-write_pictures.ensures;
-      log = c.in_ok-outcome.ensures.log ∙ ap (λ t. g.W.Wires.log c.args.wires.now ++ t) (ap (λ s. composite_traffic s scene) c.way_of.ensures.settings ∙ composite_carries command scene c.requires);
+      log = c.in_ok-outcome.ensures.log ∙ ap (λ t. g.W.Wires.log c.args.wires.now ++ t) ((λ i. composite_traffic (c.way_of.ensures.settings i) (c.way_of.ensures.strands_are i) scene) ∙ composite_carries command scene c.requires);
     })
 
 pub returns-clause-ends : goal.returns-clause-ends
@@ -29,5 +29,5 @@ returns-clause-ends g c =
       scene = scene;
       valid = refl;
       wrote = subst (WritesAll (g.K.Sink.told c.args.sink.now) (g.K.Sink.told c.write_pictures.new.sink) (Ok tt)) text c.in_ok-write_pictures.ensures;
-      log = c.in_ok-outcome.ensures.log ∙ ap (λ t. g.W.Wires.log c.args.wires.now ++ t) (ap (λ s. composite_traffic s scene) c.way_of.ensures.settings ∙ composite_carries command scene c.requires);
+      log = c.in_ok-outcome.ensures.log ∙ ap (λ t. g.W.Wires.log c.args.wires.now ++ t) ((λ i. composite_traffic (c.way_of.ensures.settings i) (c.way_of.ensures.strands_are i) scene) ∙ composite_carries command scene c.requires);
     }

@@ -20,11 +20,11 @@ restoring-preserved c =
 pub returns-then-strands-eq1-clause-undoes : goal.returns-then-strands-eq1-clause-undoes
 returns-then-strands-eq1-clause-undoes c = λ original o. rw c.in_ok-copy.ensures (one_origin c.args.strands c.args.image.now original c.args.image.now (one_strand c.args.strands c.args.image.now c.if-strands-eq1.true o.whole_too) o)
 
-restored : (c : goal.After-drop-cells-2) → IsInterlaced c.args.strands c.from_strip.result c.args.image.now
+restored : (c : goal.After-drop-cells-2) → IsInterlaced c.args.strands c.in_ok-from_strip.field-0 c.args.image.now
 restored c =
     let image = c.args.image.now in
     let whole = c.hi-count.ensures.known in
-    rw (c.from_strip.ensures) (record {
+    rw (c.in_ok-from_strip.ensures) (record {
       tile = sym c.tile.ensures.value;
       hi = sym c.hi-count.ensures.value;
       whole = record { from_first = refl; size = omega arith };
@@ -33,4 +33,4 @@ restored c =
     })
 
 pub returns-clause-undoes : goal.returns-clause-undoes
-returns-clause-undoes c = λ original o. one_origin c.args.strands c.from_strip.result original c.args.image.now (restored c) o
+returns-clause-undoes c = λ original o. one_origin c.args.strands c.in_ok-from_strip.field-0 original c.args.image.now (restored c) o

@@ -12,4 +12,4 @@ returns-then-is_empty c =
     let none = no_entry c.args.shapes.now (sym c.is_empty.ensures ∙ c.if-is_empty.true) in
     c.blank.ensures
     ∙ ap (λ n. record { tile = c.args.t; lo = 0; hi = count; content = replicate n None }) same
-    ∙ ap (λ (pixels : List Pixel). record { tile = c.args.t; lo = 0; hi = count; content = pixels }) (sym (nothing_drawn c.args.mode (map drawing_of c.args.shapes.now) (area_of c.args.area) (ap (map drawing_of) none)))
+    ∙ ap (λ (pixels : List Pixel). record { tile = c.args.t; lo = 0; hi = count; content = pixels }) (sym (nothing_drawn c.args.strands c.args.mode (map drawing_of c.args.shapes.now) (area_of c.args.area) c.requires.strands (ap (map drawing_of) none)))

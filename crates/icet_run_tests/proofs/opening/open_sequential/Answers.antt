@@ -1,4 +1,4 @@
-use Rattle.std.proofs.Common.{sym, subst}
+use Rattle.std.proofs.Common.{◌≤◌, sym, subst, arith}
 use Rattle.icet_scene_model.specs.Scene.{SceneView}
 use Rattle.icet_multi.specs.declared.settings.Strategy.TheVariants.{Sequential}
 use Rattle.icet_net.specs.Opening.{CanOpen}
@@ -11,5 +11,5 @@ open_net-requires-clause-fits g c =
     let plan = c.in_ok-plan.plan in
     let lawful = c.ranks-ranks.ensures.lawful in
     λ κs h. subst (λ images. CanOpen plan c.scene.inside.layout images) (sym c.in_ok-images.ensures)
-    (subst (λ (v : SceneView). CanOpen plan v.tiles (rank_images c.args.scene.now)) (sym c.scene.view_is)
-    (can_open (record { strategy = Sequential; single = c.args.single; k = 8 }) c.args.scene.now plan lawful (ordered c.args.scene.now lawful).once.count c.in_ok-plan.ensures))
+    (subst (λ (v : SceneView). CanOpen plan v.tiles (rank_images 1 c.args.scene.now)) (sym c.scene.view_is)
+    (can_open (record { strategy = Sequential; single = c.args.single; k = 8 }) 1 c.args.scene.now plan (let some : 1 ≤ 1 = omega arith in some) lawful (ordered c.args.scene.now lawful).once.count c.in_ok-plan.ensures))

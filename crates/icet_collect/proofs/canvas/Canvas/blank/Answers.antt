@@ -10,6 +10,6 @@ invariant_of-result c =
     let none : c.in_ok-pixels.pixels.items ≡ replicate {A = Pixel} (c.args.w * c.args.h) None = search rules in
     record {
       canvas = search rules;
-      blank_left = λ i e. ap (λ l. get_or l i None) none ∙ blank_pixel (c.args.w * c.args.h) i;
+      blank_left = λ i l e. ap (λ l. get_or l i None) none ∙ blank_pixel (c.args.w * c.args.h) i;
       count = sym (ap left_in free ∙ left_in_blank (c.args.w * c.args.h));
     }

@@ -5,4 +5,4 @@ use Rattle.icet_collect.proofs.Positions.{below}
 use Rattle.icet_collect.proofs.canvas.Canvas.leave_blank.Given as goal
 
 abbrev pub invariant-leaving : goal.invariant-leaving
-invariant-leaving l = Places l.initial.self l.self (below (stretch l.initial.self.tile l.at (replicate {A = Pixel} l.count None)) l.i)
+invariant-leaving l = Places l.initial.self l.self (below (stretch l.initial.self.tile l.at (replicate {A = Pixel} l.count None)) l.position)

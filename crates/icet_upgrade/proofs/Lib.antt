@@ -1,0 +1,14 @@
+pub mod DrawnAgain
+pub mod DrawnSpans
+pub mod Ends
+pub mod ImagesStay
+pub mod Orders
+pub mod RankShapes
+pub mod ReadyLawful
+pub mod ReadyScenes
+pub mod RowParts
+pub mod RowsLooked
+pub mod Runs
+pub mod SpansApart
+pub mod Steps
+pub mod TileRows

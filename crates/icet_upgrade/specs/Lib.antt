@@ -1,0 +1,3 @@
+pub mod Apart
+pub mod Scans
+pub mod TileImages
