@@ -57,6 +57,7 @@ pub fn paint_fields(most: u32) -> [Field; 5]
 }
 
 /// The fields of a triangle: the rank, and for each corner x and y in sixteenths of a pixel and its paint.
+#[inline(always)]
 pub fn tri_fields(ranks: u32, most: u32) -> [Field; 22]
     ensures { result ≡ tri_fields ranks most }
 {
@@ -96,6 +97,7 @@ pub fn most_tiles(version: u32) -> u32
 
 /// The paint whose depth, red, green, blue and alpha stand from a place of the numbers on; None where a
 /// channel exceeds the alpha.
+#[inline(always)]
 pub fn paint(most: u32, ns: &[Number], i: usize) -> Option<Fragment>
     requires most { most ≤ 65535 }
     requires paint { HasPaintAt most ns.now i }

@@ -132,6 +132,7 @@ fn point(ns: &[Number], paint: Fragment) -> Shape
 
 /// A triangle of a rank.
 #[tactic(auto, using(crate::proofs::ShapeLines::tri_refused, crate::proofs::ShapeLines::tri_says, crate::proofs::Growth::tri_stands))]
+#[inline(always)]
 pub fn tri_line(ranks: u32, most: u32, words: Option<&[u8]>) -> Result<Line, LineFault>
     requires { most ≤ 65535 }
     ensures line { (before : List Said) → ranks_in before ≡ ranks → maxval_in before ≡ most → IsLine result (ranged before (said_in before TriWord (words_behind (option_copied words.entry)))) }
@@ -151,6 +152,7 @@ pub fn tri_line(ranks: u32, most: u32, words: Option<&[u8]>) -> Result<Line, Lin
 }
 
 /// The three corners behind the rank; None where a paint isn't premultiplied.
+#[inline(always)]
 fn corners(most: u32, ns: &[Number]) -> Option<[Vertex; 3]>
     requires most { most ≤ 65535 }
     requires a { HasCornerAt most ns.now 1 }
@@ -168,6 +170,7 @@ fn corners(most: u32, ns: &[Number]) -> Option<[Vertex; 3]>
 }
 
 /// The corner whose numbers stand from a place on: its column and row in sixteenths of a pixel, and its paint.
+#[inline(always)]
 fn vertex(most: u32, ns: &[Number], i: usize) -> Option<Vertex>
     requires most { most ≤ 65535 }
     requires corner { HasCornerAt most ns.now i }

@@ -4,7 +4,7 @@ ghost use Rattle.icet_text.specs.Numbers.{numbers_in, sizes_in, size_at, signed_
 ghost use Rattle.icet_text.specs.Words.{words_behind};
 
 use crate::field::{Field, Number};
-use crate::first_number::split_number;
+use crate::first_number::{number_at_sight, split_number};
 use crate::numeral::number;
 use crate::words::split_word;
 use arrayvec::ArrayVec;
@@ -14,6 +14,7 @@ use std::alloc::{AllocError, Global};
 pub const MOST_NUMBERS: usize = 22;
 
 /// The numbers of the words, where there is one word for each field and the field takes its number.
+#[inline(always)]
 pub fn numbers(fields: &[Field], words: Option<&[u8]>) -> Option<ArrayVec<Number, MOST_NUMBERS>>
     requires { length fields.now ≤ 22 }
     ensures numbers { option_map (λ v. v.items) result ≡ numbers_in fields.now (words_behind (option_copied words.entry)) }
@@ -29,7 +30,36 @@ pub fn numbers(fields: &[Field], words: Option<&[u8]>) -> Option<ArrayVec<Number
 
 /// The numbers of the first words, one for each field, where the field takes its number; and what is left of
 /// the line.
+#[inline(always)]
 pub fn lead<'a>(
+    fields: &[Field],
+    words: Option<&'a [u8]>,
+) -> Option<(ArrayVec<Number, MOST_NUMBERS>, Option<&'a [u8]>)>
+    requires { length fields.now ≤ 22 }
+    ensures numbers { option_map (λ r. r.0.items) result ≡ numbers_in fields.now (take (length fields.now) (words_behind (option_copied words.entry))) }
+    ensures rest { IfSome result (λ r. words_behind (option_copied r.1) ≡ drop (length fields.now) (words_behind (option_copied words.entry))) }
+    ensures count { IfSome result (λ r. length r.0.items ≡ length fields.now) }
+    ensures within { IfSome result (λ r. (i : ℕ) → i < length fields.now → IsInAt fields.now r.0.items i) }
+{
+    let mut values = ArrayVec::new();
+    let mut rest = words;
+    for field in fields {
+        let Some(line) = rest else {
+            return lead_with_care(fields, words);
+        };
+        let Some((number, behind)) = number_at_sight(*field, line) else {
+            return lead_with_care(fields, words);
+        };
+        values.push(number);
+        rest = behind;
+    }
+    Some((values, rest))
+}
+
+/// The same, word by word with care.
+#[cold]
+#[inline(never)]
+fn lead_with_care<'a>(
     fields: &[Field],
     words: Option<&'a [u8]>,
 ) -> Option<(ArrayVec<Number, MOST_NUMBERS>, Option<&'a [u8]>)>
@@ -50,6 +80,7 @@ pub fn lead<'a>(
 }
 
 /// The size of the number at a place.
+#[inline(always)]
 pub fn size(ns: &[Number], i: usize) -> u32
     requires { i < length ns.now }
     ensures { result ≡ size_at ns.now i }
@@ -58,6 +89,7 @@ pub fn size(ns: &[Number], i: usize) -> u32
 }
 
 /// The number at a place, with its sign.
+#[inline(always)]
 pub fn signed(ns: &[Number], i: usize) -> i32
     requires within { i < length ns.now }
     requires small { size_at ns.now i ≤ 1073741824 }

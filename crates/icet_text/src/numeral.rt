@@ -43,6 +43,7 @@ pub fn number(field: Field, word: &[u8]) -> Option<Number>
 }
 
 /// Whether this byte stands first.
+#[inline(always)]
 pub fn begins_with(word: &[u8], byte: u8) -> bool
     ensures { result ≡ begins_with byte word.now }
 {
@@ -53,7 +54,8 @@ pub fn begins_with(word: &[u8], byte: u8) -> bool
 }
 
 /// What is behind the minus sign, where there is one.
-fn digits_of(word: &[u8]) -> &[u8]
+#[inline(always)]
+pub fn digits_of(word: &[u8]) -> &[u8]
     ensures { result.now ≡ digits_of word.now }
 {
     if begins_with(word, b'-') {
@@ -70,7 +72,7 @@ fn is_natural(word: &[u8]) -> bool
 }
 
 /// Whether there is a first digit, and no further one behind a leading 0.
-pub fn starts_well(word: &[u8]) -> bool
+fn starts_well(word: &[u8]) -> bool
     ensures { result ≡ starts_well word.now }
 {
     match word {

@@ -1,7 +1,0 @@
-use Rattle.std.proofs.Common.{◌≡◌, take, true}
-use Rattle.std.specs.List.{list_all}
-use Rattle.icet_text.specs.Numerals.{is_digit, value_from}
-use Rattle.icet_text.proofs.first_number.first_digits.Given as goal
-
-abbrev pub invariant-loop-byte : goal.invariant-loop-byte
-invariant-loop-byte l = (l.count ≡ l.byte-index) × (l.value ≡ value_from 0 (take l.count l.bytes)) × (list_all is_digit (take l.count l.bytes) ≡ true)
