@@ -3,11 +3,7 @@
 #![tactic(auto)]
 
 #[cfg(test)]
-mod closing;
-#[cfg(test)]
 mod demonstration;
-#[cfg(test)]
-mod opening;
 #[cfg(test)]
 mod runs;
 #[cfg(test)]

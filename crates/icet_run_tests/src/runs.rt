@@ -42,7 +42,7 @@ const TIE: &[u8] =
     b"P7\nWIDTH 1\nHEIGHT 1\nDEPTH 4\nMAXVAL 255\nTUPLTYPE RGB_ALPHA\nENDHDR\n\x01\x01\x01\xff";
 
 /// Nobody draws.
-pub(crate) const NOTHING: &str = "icet-scene 1\nmode depth\nranks 3\ntile 5 5 2 1 2\nend\n";
+const NOTHING: &str = "icet-scene 1\nmode depth\nranks 3\ntile 5 5 2 1 2\nend\n";
 
 /// Two by one pixels, where nothing was drawn.
 const BLANK: &[u8] =

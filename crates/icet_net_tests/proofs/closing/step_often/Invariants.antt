@@ -1,6 +1,6 @@
 use Rattle.std.proofs.Common.{◌≡◌}
 use Rattle.icet_net.specs.Ranks.{AreHulls}
-use Rattle.icet_run_tests.proofs.closing.step_often.Given as goal
+use Rattle.icet_net_tests.proofs.closing.step_often.Given as goal
 
 abbrev pub invariant-stepping : goal.invariant-stepping
 invariant-stepping g l = record {

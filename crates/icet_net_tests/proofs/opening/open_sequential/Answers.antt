@@ -4,7 +4,7 @@ use Rattle.icet_multi.specs.declared.settings.Strategy.TheVariants.{Sequential}
 use Rattle.icet_net.specs.Opening.{CanOpen}
 use Rattle.icet_jobs.specs.Composites.{rank_images}
 use Rattle.icet_jobs.proofs.SceneNets.{can_open, ordered}
-use Rattle.icet_run_tests.proofs.opening.open_sequential.Goals as goal
+use Rattle.icet_net_tests.proofs.opening.open_sequential.Goals as goal
 
 pub open_net-requires-clause-fits : goal.open_net-requires-clause-fits
 open_net-requires-clause-fits g c =

@@ -4,7 +4,7 @@ ghost use Rattle.std.specs.Prelude.{◌≡◌, ◌≤◌, IfSome, length};
 ghost use Rattle.icet_net.specs.Ranks.{AreHulls};
 
 use crate::opening::open_sequential;
-use crate::runs::NOTHING;
+use crate::scenes::{NOTHING, scene_of};
 use icet_base::{NoMemory, PlainGate, Rank};
 use icet_multi::Single;
 use icet_net::laws::hulls_stay;
@@ -13,7 +13,6 @@ use icet_pixel::Pixel;
 use icet_rank::Step;
 use icet_ring::{Inbox, MemWires, Outbox, Wires};
 use icet_ring_wires::{RingWires, ScriptWires};
-use icet_scene::read::read;
 use icet_scene::scene::Scene;
 use std::alloc::Global;
 use std::thread::Threads;
@@ -132,14 +131,6 @@ fn came_over<W: Wires, R: Threads + Sync>(
     })
 }
 
-/// The scene in which nobody draws, read.
-fn nothing(alloc: Global) -> Result<Scene, NoMemory> {
-    match read(alloc, NOTHING.as_bytes()) {
-        Ok(scene) => Ok(scene),
-        Err(_) => Err(NoMemory),
-    }
-}
-
 /// Wires of each kind, the last with the numbers of the blind calls.
 #[derive(Drop)]
 enum Kind {
@@ -154,7 +145,7 @@ fn came_of<R: Threads + Sync>(
     alloc: Global,
     kind: &Kind,
 ) -> Result<Option<Came>, NoMemory> {
-    let scene = nothing(alloc)?;
+    let scene = scene_of(alloc, NOTHING)?;
     match kind {
         Kind::Memory => came_over(rt, alloc, &scene, &mut MemWires::new(alloc)),
         Kind::Rings => came_over(rt, alloc, &scene, &mut RingWires::new(alloc)),
@@ -195,7 +186,7 @@ fn steps_behind_the_end<R: Threads + Sync>(
     rt: &R,
     alloc: Global,
 ) -> Result<Option<[Step; 2]>, NoMemory> {
-    let scene = nothing(alloc)?;
+    let scene = scene_of(alloc, NOTHING)?;
     let mut wires = MemWires::new(alloc);
     let (hull, mut ranks) = open_sequential(alloc, &scene, Single::Tree, 4, &mut wires)?;
     step_often(rt, &hull, &mut ranks, &mut wires, TURNS)?;
