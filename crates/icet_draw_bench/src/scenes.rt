@@ -1,4 +1,5 @@
 //! The scenes whose drawing is timed.
+use icet_base::NoMemory;
 use icet_demo::demo_scene;
 use icet_scene::read::read;
 use icet_scene::scene::Scene;
@@ -12,8 +13,14 @@ pub struct Work {
     pub scene: Scene,
 }
 
-/// How many triangles or rows there are where many of one kind are drawn.
+/// How many small triangles are drawn.
 const MANY: u32 = 1000;
+
+/// How often a shape is drawn over the whole tile.
+const LAYERS: u32 = 64;
+
+/// How many rows of a tile are drawn by spans.
+const ROWS: u32 = 64;
 
 /// All that is timed.
 pub fn works(alloc: Global) -> anyhow::Result<Vec<Work>> {
@@ -35,39 +42,35 @@ fn demonstration(alloc: Global) -> anyhow::Result<Work> {
     })
 }
 
-/// A triangle without an inside, whose box has 2048 by 2048 pixels: each is tested and none is drawn.
+/// A triangle without an inside, whose box has all pixels of the tile: each is tested and none is drawn.
 fn tested(alloc: Global) -> anyhow::Result<Work> {
-    one_triangle(
+    layered(
         alloc,
         "a pixel tested",
-        2048 * 2048,
-        "tri 0 0 0 5 1 1 1 255 32760 32760 5 1 1 1 255 32767 32767 5 1 1 1 255\n",
+        "tri 0 0 0 5 1 1 1 255 16376 16376 5 1 1 1 255 16383 16383 5 1 1 1 255\n",
     )
 }
 
-/// A triangle over a tile of 2048 by 2048 pixels: each is tested and drawn.
+/// A triangle over the whole tile: each pixel is tested and drawn.
 fn drawn(alloc: Global) -> anyhow::Result<Work> {
-    one_triangle(
+    layered(
         alloc,
         "a pixel tested and drawn",
-        2048 * 2048,
-        "tri 0 -16 -16 5 10 20 30 255 65600 -16 5 90 80 70 255 -16 65600 5 1 2 3 255\n",
+        "tri 0 -16 -16 5 10 20 30 255 32800 -16 5 90 80 70 255 -16 32800 5 1 2 3 255\n",
     )
 }
 
-/// One triangle on a tile of 2048 by 2048 pixels.
-fn one_triangle(alloc: Global, name: &'static str, units: u64, line: &str) -> anyhow::Result<Work> {
+/// The shape of a line, so often over a tile of 1024 by 1024 pixels that making the image counts for little.
+fn layered(alloc: Global, name: &'static str, line: &str) -> anyhow::Result<Work> {
     let mut text = String::new(alloc);
-    for part in [
-        "icet-scene 1\nmode depth\nranks 1\ntile 0 0 2048 2048 0\n",
-        line,
-        "end\n",
-    ] {
-        text.push_str(part)?;
+    text.push_str("icet-scene 1\nmode depth\nranks 1\ntile 0 0 1024 1024 0\n")?;
+    for _ in 0..LAYERS {
+        text.push_str(line)?;
     }
+    text.push_str("end\n")?;
     Ok(Work {
         name,
-        units,
+        units: u64::from(LAYERS) * 1024 * 1024,
         scene: read(alloc, text.as_bytes())?,
     })
 }
@@ -94,22 +97,30 @@ fn small(alloc: Global) -> anyhow::Result<Work> {
     })
 }
 
-/// Rows of 1024 pixels that were drawn elsewhere.
+/// Rows of 1024 pixels that were drawn elsewhere, one over the other.
 fn rows(alloc: Global) -> anyhow::Result<Work> {
+    let row = row_of(alloc)?;
     let mut text = String::new(alloc);
-    text.push_str("icet-scene 2\nmode depth\nranks 1\ntile 0 0 1024 1000 0\n")?;
-    for y in 0..MANY {
-        let line = format!(in alloc; "span 0 0 {y}")?;
+    text.push_str("icet-scene 2\nmode depth\nranks 1\ntile 0 0 1024 64 0\n")?;
+    for i in 0..LAYERS * ROWS {
+        let line = format!(in alloc; "span 0 0 {}", i % ROWS)?;
         text.push_str(line.as_str())?;
-        for _ in 0..1024u32 {
-            text.push_str(" 5 10 20 30 255")?;
-        }
-        text.push_str("\n")?;
+        text.push_str(row.as_str())?;
     }
     text.push_str("end\n")?;
     Ok(Work {
         name: "a pixel of a row",
-        units: 1024 * u64::from(MANY),
+        units: u64::from(LAYERS) * u64::from(ROWS) * 1024,
         scene: read(alloc, text.as_bytes())?,
     })
+}
+
+/// The fragments of a row of 1024 pixels, as a line has them.
+fn row_of(alloc: Global) -> Result<String, NoMemory> {
+    let mut row = String::new(alloc);
+    for _ in 0..1024u32 {
+        row.push_str(" 5 10 20 30 255")?;
+    }
+    row.push_str("\n")?;
+    Ok(row)
 }

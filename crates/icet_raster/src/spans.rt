@@ -33,8 +33,29 @@ pub(crate) fn draw_paints(
     draw_row(image, mode, area, y - top, x, paints);
 }
 
-/// Draws paints in a row of the area, the first in column `x` of the display.
+/// Draws paints in a row of the area, the first in column `x` of the display. Each mode has a loop of its
+/// own, so that no pixel asks for it.
 fn draw_row(image: &mut Dense, mode: Mode, area: Rect, row: u32, x: u32, paints: &[Fragment])
+    requires area { IsOnDisplay (area_of area) }
+    requires row { row < area.h }
+    requires run { IsRun paints.now }
+    requires columns { x + length paints.now ≤ 16384 }
+    requires width { image.old.w ≡ area.w }
+    requires height { image.old.h ≡ area.h }
+    ensures width { image.new.w ≡ area.w }
+    ensures height { image.new.h ≡ area.h }
+    ensures drawn { Draws mode (Span x ((area_of area).y + row) paints.now) (area_of area) 0 (area.w * area.h) image.old.pixels image.new.pixels }
+{
+    match mode {
+        Mode::Depth => draw_columns(image, Mode::Depth, area, row, x, paints),
+        Mode::Blend => draw_columns(image, Mode::Blend, area, row, x, paints),
+        Mode::WideBlend => draw_columns(image, Mode::WideBlend, area, row, x, paints),
+    }
+}
+
+/// Draws paints in a row of the area, the first in column `x` of the display.
+#[inline(always)]
+fn draw_columns(image: &mut Dense, mode: Mode, area: Rect, row: u32, x: u32, paints: &[Fragment])
     requires area { IsOnDisplay (area_of area) }
     requires row { row < area.h }
     requires run { IsRun paints.now }

@@ -2,7 +2,7 @@ use Rattle.std.proofs.Common.{◌≡◌, ◌+◌, ◌*◌}
 use Rattle.icet_scene_model.specs.Raster.{Span}
 use Rattle.icet_model.specs.Tiles.{area_of}
 use Rattle.icet_raster.specs.Stretches.{Draws}
-use Rattle.icet_raster.proofs.spans.draw_row.Given as goal
+use Rattle.icet_raster.proofs.spans.draw_columns.Given as goal
 
 abbrev pub invariant-loop-column : goal.invariant-loop-column
 invariant-loop-column l = record {

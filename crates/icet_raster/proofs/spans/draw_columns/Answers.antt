@@ -8,7 +8,7 @@ use Rattle.icet_model.specs.Tiles.{Area, area_of}
 use Rattle.icet_scene_model.specs.Raster.{Span, drawn_over}
 use Rattle.icet_raster.specs.Stretches.{Draws, IsSeenWithin}
 use Rattle.icet_raster.proofs.StretchesDrawn.{draws-join, draws-set, row-front, row-back, rows-above, rows-below, row_part, span_within, span_given}
-use Rattle.icet_raster.proofs.spans.draw_row.Goals as goal
+use Rattle.icet_raster.proofs.spans.draw_columns.Goals as goal
 
 -- before the first column nothing is drawn yet
 starts : (mode : Mode) (x row from to : ℕ) (paints : List FragmentView) (area : Area) (old : List Pixel) → IsSeenWithin (Span x (area.y + row) paints) area (row_part row from to) → row < area.h → from ≤ to → to ≤ area.w
