@@ -1,14 +1,13 @@
 -- An image is the part of it where its shapes may be seen, with blank pixels around.
 use Rattle.std.proofs.Common.{◌≡◌, ℕ, zero, suc, ◌+◌, ◌-◌, ◌*◌, ◌/◌, ◌%◌, ◌<◌, ◌≤◌, List, [], ◌∷◌, ◌++◌, length, map, take, drop, replicate, Some, None, refl, sym, ap, ◌∙◌, arith, append_assoc, length-append, length-drop, zero-add, add-zero, ⊎_elim, ◌⊎◌}
-use Rattle.std.specs.Prelude.{◌≢◌}
 use Rattle.std.specs.List.{flat_map, range_with_len}
 use Rattle.std.proofs.lemmas.List.{append-nil, map-append, length-map, length-replicate, length-take-le}
 use Rattle.std.proofs.lemmas.List.FromFn.{length-range_with_len}
-use Rattle.std.proofs.lemmas.Nat.{div-mul-add, mod-mul-add, div_below, mod_below, div-add-mod', mul-le}
+use Rattle.std.proofs.lemmas.Nat.{div-mul-add, mod-mul-add, div_below, mod_below, div-add-mod'}
 use Rattle.std.proofs.Math.Nat.{suc-mul, add-mul, mul_comm}
 use Rattle.std.proofs.Math.Seq.{take-append-add, drop-append-add}
 use Rattle.icet_model.specs.declared.names.Mode.{Mode}
-use Rattle.icet_model.specs.Pixel.{FragmentView, Pixel}
+use Rattle.icet_model.specs.Pixel.{Pixel}
 use Rattle.icet_model.specs.Tiles.{Area}
 use Rattle.icet_scene_model.specs.Raster.{Drawing, drawn, full_image}
 use Rattle.icet_raster.specs.declared.cut.Part.{Part}
@@ -22,10 +21,10 @@ range_split : (a n m : ℕ) → range_with_len a (n + m) ≡ range_with_len a n 
 range_split a zero m = ap (λ k. range_with_len a k) (zero-add m) ∙ ap (λ k. range_with_len k m) (sym (add-zero a))
 range_split a (suc n) m = ap (range_with_len a) (let e : suc n + m ≡ suc (n + m) = omega arith in e) ∙ ap (λ l. a ∷ l) (range_split (a + 1) n m ∙ ap (λ k. range_with_len (a + 1) n ++ range_with_len k m) (let e : a + 1 + n ≡ a + suc n = omega arith in e))
 
-made_split : {X : Type 0} (f : ℕ → X) (a n m : ℕ) → map f (range_with_len a (n + m)) ≡ map f (range_with_len a n) ++ map f (range_with_len (a + n) m)
+pub made_split : {X : Type 0} (f : ℕ → X) (a n m : ℕ) → map f (range_with_len a (n + m)) ≡ map f (range_with_len a n) ++ map f (range_with_len (a + n) m)
 made_split f a n m = ap (map f) (range_split a n m) ∙ map-append f (range_with_len a n) (range_with_len (a + n) m)
 
-made_length : {X : Type 0} (f : ℕ → X) (a n : ℕ) → length (map f (range_with_len a n)) ≡ n
+pub made_length : {X : Type 0} (f : ℕ → X) (a n : ℕ) → length (map f (range_with_len a n)) ≡ n
 made_length f a n = length-map (range_with_len a n) f ∙ length-range_with_len a n
 
 -- a row of what is made of a range
@@ -48,7 +47,7 @@ flat_more f [] x = append-nil (f x)
 flat_more f (y ∷ xs) x = ap (λ l. f y ++ l) (flat_more f xs x) ∙ sym (append_assoc (f y) (flat_map f xs) (f x))
 
 -- what is made of two ranges of one length, where it is the same place by place
-shifted : {X : Type 0} (f g : ℕ → X) (a b n : ℕ) → ((i : ℕ) → i < n → f (a + i) ≡ g (b + i)) → map f (range_with_len a n) ≡ map g (range_with_len b n)
+pub shifted : {X : Type 0} (f g : ℕ → X) (a b n : ℕ) → ((i : ℕ) → i < n → f (a + i) ≡ g (b + i)) → map f (range_with_len a n) ≡ map g (range_with_len b n)
 shifted f g a b zero h = refl
 shifted f g a b (suc n) h =
     let first : f a ≡ g b = ap f (sym (add-zero a)) ∙ h 0 (omega arith) ∙ ap g (add-zero b) in

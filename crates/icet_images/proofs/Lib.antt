@@ -1,1 +1,2 @@
+pub mod BandedImages
 pub mod FramedImages

@@ -17,6 +17,10 @@ full_piece mode shapes area t = record { tile = t; lo = 0; hi = area.w * area.h;
 abbrev pub part_area : Area → Part → Area
 part_area area part = record { x = area.x + part.from; y = area.y + part.top; w = part.to - part.from; h = part.bottom - part.top }
 
+-- some rows of an area, the last not included
+abbrev pub rows_area : Area → ℕ → ℕ → Area
+rows_area area top bottom = record { x = area.x; y = area.y + top; w = area.w; h = bottom - top }
+
 -- the part has columns and rows of an image of this size
 pub record IsPartWithin (w h : ℕ) (part : Part) : Type 0 where
   pub columns : part.from ≤ part.to

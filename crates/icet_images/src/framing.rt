@@ -1,35 +1,34 @@
-ghost use Rattle.std.specs.Prelude.{◌≡◌, ◌+◌, ◌-◌, ◌*◌, ◌<◌, ◌≤◌, ◌^◌, ◌++◌, IfOk, OnOk, length};
+ghost use Rattle.std.specs.Prelude.{◌≡◌, ◌+◌, ◌-◌, ◌*◌, ◌<◌, ◌≤◌, ◌^◌, ◌++◌, OnOk, length};
 ghost use Rattle.icet_images.specs.Images.{IsPartWithin, framed_image, framed_row, framed_rows};
 
 use icet_base::NoMemory;
 use icet_pixel::Pixel;
 use icet_raster::Part;
 use icet_sparse::Strip;
-use std::alloc::Global;
 
-/// The pixels of an image of `w` by `h` that are blank but for a part, which has these pixels, row by row.
-pub(crate) fn framed(
-    alloc: Global,
+/// Puts the pixels of an image of `w` by `h` at the end, which are blank but for a part that has these pixels, row by
+/// row.
+pub(crate) fn put_framed(
+    strip: &mut Strip,
     pixels: &[Pixel],
     w: u32,
     h: u32,
     part: Part,
-) -> Result<Strip, NoMemory>
+) -> Result<(), NoMemory>
     requires part { IsPartWithin w h part }
     requires size { length pixels.now ≡ (part.to - part.from) * (part.bottom - part.top) }
-    requires most { w * h < 2 ^ 32 }
-    ensures { IfOk result (λ strip. strip ≡ framed_image w h part pixels.now) }
+    requires room { length strip.old + w * h < 2 ^ 32 }
+    ensures { OnOk result (strip.new ≡ strip.old ++ framed_image w h part pixels.now) }
 {
-    let mut strip = Strip::with_room(alloc, count_drawn(pixels))?;
     strip.push_blank(part.top * w);
     let margins = Margins {
         left: part.from,
         width: part.to - part.from,
         right: w - part.to,
     };
-    put_rows(&mut strip, pixels, margins, part.bottom - part.top)?;
+    put_rows(strip, pixels, margins, part.bottom - part.top)?;
     strip.push_blank((h - part.bottom) * w);
-    Ok(strip)
+    Ok(())
 }
 
 /// How many pixels of a row are blank before the part's, how many the part has, and how many are blank behind them.
@@ -68,9 +67,4 @@ fn put_row(strip: &mut Strip, row: &[Pixel], margins: Margins) -> Result<(), NoM
     strip.push_pixels(row)?;
     strip.push_blank(margins.right);
     Ok(())
-}
-
-/// How many of the pixels are drawn, by which memory is reserved.
-fn count_drawn(pixels: &[Pixel]) -> usize {
-    pixels.iter().filter(|pixel| pixel.is_some()).count()
 }

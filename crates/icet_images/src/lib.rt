@@ -2,6 +2,7 @@
 //! shapes may be seen.
 #![tactic(auto)]
 
+mod bands;
 pub mod drawn;
 mod framing;
 
