@@ -5,6 +5,10 @@
 #[cfg(test)]
 mod demonstration;
 #[cfg(test)]
+mod faults;
+#[cfg(test)]
+mod replays;
+#[cfg(test)]
 mod runs;
 #[cfg(test)]
 mod scenes;

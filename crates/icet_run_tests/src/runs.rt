@@ -17,7 +17,7 @@ use std::process::Abort;
 use std::sync::atomic::{AtomicU32, Ordering};
 use std::thread::Threads;
 
-const WORDS: [&str; 3] = ["composite", "--strategy", "direct"];
+pub(crate) const WORDS: [&str; 3] = ["composite", "--strategy", "direct"];
 
 pub(crate) const POINT: &str =
     "icet-scene 1\nmode depth\nranks 1\ntile 0 0 1 1 0\npoint 0 0 0 7 10 20 30 255\nend\n";
@@ -26,11 +26,11 @@ pub(crate) const PICTURE: &[u8] =
     b"P7\nWIDTH 1\nHEIGHT 1\nDEPTH 4\nMAXVAL 255\nTUPLTYPE RGB_ALPHA\nENDHDR\n\x0a\x14\x1e\xff";
 
 /// Points in and around a tile that doesn't begin at the corner; of equal depths the earlier one shows.
-const AROUND: &str =
+pub(crate) const AROUND: &str =
     "icet-scene 1\nmode depth\nranks 1\ntile 2 1 2 2 0\npoint 0 3 2 7 1 0 0 255\npoint 0 3 2 7 2 0 0 255\npoint 0 2 1 9 3 0 0 255\npoint 0 2 1 8 4 0 0 255\npoint 0 4 1 0 5 0 0 255\npoint 0 1 1 0 6 0 0 255\nend\n";
 
 /// Two by two pixels, of which the first and the last were drawn.
-const FOUR: &[u8] =
+pub(crate) const FOUR: &[u8] =
     b"P7\nWIDTH 2\nHEIGHT 2\nDEPTH 4\nMAXVAL 255\nTUPLTYPE RGB_ALPHA\nENDHDR\n\x04\x00\x00\xff\x00\x00\x00\x00\x00\x00\x00\x00\x01\x00\x00\xff";
 
 /// Two ranks at one depth.
@@ -60,7 +60,7 @@ const OF_EACH: &[u8] =
 const LONG: &[u8] = b"icet: scene longer than 67108864 bytes\n";
 
 /// The number of a call that is never made.
-const NEVER: u64 = 1_000_000;
+pub(crate) const NEVER: u64 = 1_000_000;
 
 /// What has to come of a run.
 #[derive(Clone, Copy)]
@@ -87,7 +87,7 @@ pub(crate) fn fault(status: Status, written: &'static [u8], noted: &'static str)
 }
 
 /// Ten bytes of the scene a call, of which the one with this number fails.
-fn source_of(alloc: Global, scene: &str, fails: u64) -> Result<MemSource, NoMemory> {
+pub(crate) fn source_of(alloc: Global, scene: &str, fails: u64) -> Result<MemSource, NoMemory> {
     let bytes = Vec::from_slice(alloc, scene.as_bytes())?;
     Ok(MemSource::new(bytes, 10, vec![in alloc; fails]?))
 }
@@ -105,23 +105,49 @@ impl Came {
     pub(crate) fn wrote(&self, bytes: &[u8]) -> bool {
         self.status == Status::Ok && self.sink.bytes() == bytes
     }
+
+    /// Whether all went well and these bytes were written last.
+    pub(crate) fn wrote_in_the_end(&self, bytes: &[u8]) -> bool {
+        self.status == Status::Ok && self.sink.bytes().ends_with(bytes)
+    }
+
+    /// Whether this is what had to come.
+    pub(crate) fn is(&self, want: Want) -> bool {
+        self.status == want.status
+            && self.sink.bytes() == want.written
+            && self.notes.bytes() == want.noted.as_bytes()
+    }
 }
 
-/// What comes of a run over memory, where the sink takes 40 bytes a call and fails at the call with this
-/// number.
-fn came_of<R: Threads + Sync>(
+/// A sink that takes 1,024 bytes, 40 a call.
+fn sink_of(alloc: Global) -> Result<MemSink, NoMemory> {
+    MemSink::new(alloc, 1024, 40, Vec::new(alloc))
+}
+
+/// What comes of a run over memory, of which no call of the sink fails.
+fn came_of_source<R: Threads + Sync>(
     rt: &R,
     alloc: Global,
     words: &[&str],
     source: &mut MemSource,
-    fails: u64,
+) -> Result<Came, NoMemory> {
+    came_into(rt, alloc, words, source, sink_of(alloc)?)
+}
+
+/// What comes of a run over memory, which writes to this sink.
+pub(crate) fn came_into<R: Threads + Sync>(
+    rt: &R,
+    alloc: Global,
+    words: &[&str],
+    source: &mut MemSource,
+    sink: MemSink,
 ) -> Result<Came, NoMemory> {
     came_through(
         rt,
         alloc,
         words,
         source,
-        fails,
+        sink,
         &mut MemWires::new(alloc),
         &PlainGate,
     )
@@ -133,11 +159,10 @@ fn came_through<R: Threads + Sync, W: Wires, G: Gate>(
     alloc: Global,
     words: &[&str],
     source: &mut MemSource,
-    fails: u64,
+    mut sink: MemSink,
     wires: &mut W,
     gate: &G,
 ) -> Result<Came, NoMemory> {
-    let mut sink = MemSink::new(alloc, 1024, 40, vec![in alloc; fails]?)?;
     let mut notes = MemSink::new(alloc, 1024, 1024, Vec::new(alloc))?;
     let status = run(rt, alloc, words, source, &mut sink, &mut notes, wires, gate);
     Ok(Came {
@@ -174,7 +199,7 @@ pub(crate) fn came_over<R: Threads + Sync, W: Wires, G: Gate>(
     gate: &G,
 ) -> Result<Came, NoMemory> {
     let mut source = source_of(alloc, scene, NEVER)?;
-    came_through(rt, alloc, words, &mut source, NEVER, wires, gate)
+    came_through(rt, alloc, words, &mut source, sink_of(alloc)?, wires, gate)
 }
 
 /// What comes of a run on the first bytes of this scene, so many of them, in which nothing fails.
@@ -188,7 +213,7 @@ pub(crate) fn came_of_front<R: Threads + Sync>(
     let text = scene.as_bytes();
     let front = Vec::from_slice(alloc, &text[..count.min(text.len())])?;
     let mut source = MemSource::new(front, 10, vec![in alloc; NEVER]?);
-    came_of(rt, alloc, words, &mut source, NEVER)
+    came_of_source(rt, alloc, words, &mut source)
 }
 
 /// Stops the test unless this came.
@@ -261,34 +286,6 @@ fn images_are_weighed_in_their_strands(rt: HostRuntime) {
         let words = ["summary", "--strands", strands];
         let came = came_of_scene(&rt, rt.alloc(), &words, APART);
         assert_came(&rt, &came, done(written), strands);
-    }
-}
-
-/// What comes of a run whose source and sink fail at the calls with these numbers.
-fn came_of_faults<R: Threads + Sync>(
-    rt: &R,
-    alloc: Global,
-    read_fails: u64,
-    write_fails: u64,
-) -> Result<Came, NoMemory> {
-    let mut source = source_of(alloc, POINT, read_fails)?;
-    came_of(rt, alloc, &WORDS, &mut source, write_fails)
-}
-
-// The picture takes two writes and a flush.
-#[test]
-fn a_fault_in_mid_stream_is_answered(rt: HostRuntime) {
-    let unread = fault(Status::ReadFault, b"", "icet: read failed\n");
-    let unwritten = fault(Status::WriteFault, &PICTURE[..40], "icet: write failed\n");
-    let unflushed = fault(Status::WriteFault, PICTURE, "icet: write failed\n");
-    for (read_fails, write_fails, want, case) in [
-        (1, NEVER, unread, "reading"),
-        (NEVER, 1, unwritten, "writing"),
-        (NEVER, 2, unflushed, "flushing"),
-        (NEVER, 3, done(PICTURE), "flushing again"),
-    ] {
-        let came = came_of_faults(&rt, rt.alloc(), read_fails, write_fails);
-        assert_came(&rt, &came, want, case);
     }
 }
 
@@ -488,7 +485,7 @@ fn other_words_are_refused_with_nothing_read(rt: HostRuntime) {
     ] {
         match source_of(rt.alloc(), POINT, NEVER) {
             Ok(mut source) => {
-                let came = came_of(&rt, rt.alloc(), words, &mut source, NEVER);
+                let came = came_of_source(&rt, rt.alloc(), words, &mut source);
                 assert_came(&rt, &came, refused, "words");
                 let mut front = [0; 10];
                 let _ = source.read(&mut front);
