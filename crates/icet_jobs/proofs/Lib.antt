@@ -2,6 +2,7 @@ pub mod DrivenNets
 pub mod LowestLeft
 pub mod PictureTexts
 pub mod PlanExchanges
+pub mod RankDrawings
 pub mod ReplayLines
 pub mod SameValues
 pub mod SceneImages

@@ -1,4 +1,5 @@
 pub mod Composites
+pub mod Drawings
 pub mod Nets
 pub mod Replays
 pub mod Texts

@@ -2,7 +2,7 @@ ghost use Rattle.std.specs.Prelude.{◌≡◌, ◌≤◌, ◌++◌, IfOk, OnOk, 
 ghost use Rattle.icet_jobs.specs.Composites.{composite_traffic, plain_pictures};
 ghost use Rattle.icet_jobs.specs.Weights.{scene_weight};
 
-use crate::imaging::images_of;
+use crate::drawing::draw_images;
 use crate::net::run_net;
 use crate::planning::plan_of;
 use crate::weighing::weigh;
@@ -15,8 +15,8 @@ use std::alloc::Global;
 use std::thread::Threads;
 
 /// How a scene is composited: the plan's settings, how many messages may wait on a pair of ranks, how
-/// many workers step the ranks, how many exchanges a rank may make in a turn, and to how many strands the
-/// pixels of images are dealt out.
+/// many workers draw and step the ranks, how many exchanges a rank may make in a turn, and to how many
+/// strands the pixels of images are dealt out.
 #[derive(Clone, Copy, Debug, PartialEq, Eq)]
 pub struct Way {
     pub settings: Settings,
@@ -34,9 +34,10 @@ pub struct Outcome {
     pub weight: u64,
 }
 
-/// Composites a scene: makes the plan, draws each rank's images and interlaces them, moves them through a
-/// net over the wires, and hands out the plain composite of each tile, whatever the strands. The wires' log
-/// grows by the plan's traffic, and each pair that was opened is closed.
+/// Composites a scene: makes the plan, has the workers draw each rank's images and interlace them, moves them
+/// through a net over the wires, whose ranks the workers step, and hands out the plain composite of each tile,
+/// whatever the strands and the workers. The wires' log grows by the plan's traffic, and each pair that was
+/// opened is closed.
 ///
 /// # Errors
 ///
@@ -63,7 +64,7 @@ pub fn composite<W: Wires, G: Gate, R: Threads + Sync>(
     let tiles = scene.layout.count();
     let _ranks = scene.ranks();
     let plan = plan_of(alloc, scene, &way.settings)?;
-    let images = images_of(alloc, scene, way.strands)?;
+    let images = draw_images(rt, alloc, scene, way.strands, way.workers)?;
     let weight = weigh(images.as_slice(), tiles);
     let pictures = run_net(
         rt,

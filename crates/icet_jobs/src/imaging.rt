@@ -15,8 +15,8 @@ use icet_scene::scene::Scene;
 use icet_sparse::Sparse;
 use std::alloc::Global;
 
-/// Each rank's full image of each tile, with its pixels dealt out to the strands. Condition: there is a
-/// strand.
+/// Each rank's full image of each tile, with its pixels dealt out to the strands, drawn one after the other on this
+/// thread. Condition: there is a strand.
 ///
 /// # Errors
 ///
@@ -33,9 +33,18 @@ pub fn images_of(alloc: Global, scene: &Scene, strands: u32) -> Result<Vec<Image
     Ok(images)
 }
 
-/// A rank's full image of each tile.
+/// A rank's full image of each tile, with its pixels dealt out to the strands. Condition: there is a strand.
+///
+/// # Errors
+///
+/// `NoMemory`.
 #[tactic(auto, using(crate::proofs::SceneImages::pieces_more))]
-fn image_of(alloc: Global, scene: &Scene, rank: Rank, strands: u32) -> Result<Image, NoMemory>
+pub(crate) fn image_of(
+    alloc: Global,
+    scene: &Scene,
+    rank: Rank,
+    strands: u32,
+) -> Result<Image, NoMemory>
     requires { 1 ≤ strands }
     ensures { IfOk result (λ image. image ≡ rank_image strands scene.now rank) }
 {

@@ -2,6 +2,7 @@
 #![tactic(auto)]
 
 pub mod compositing;
+pub mod drawing;
 pub mod imaging;
 pub mod net;
 pub mod pictures;
@@ -11,6 +12,7 @@ pub mod summary;
 pub mod weighing;
 
 pub use compositing::{Outcome, Way, composite};
+pub use drawing::draw_images;
 pub use imaging::images_of;
 pub use net::run_net;
 pub use pictures::write_pictures;
