@@ -1,4 +1,6 @@
 //! The scenes whose drawing is timed.
+ghost use Rattle.std.specs.Prelude.{◌≤◌};
+
 use icet_base::NoMemory;
 use icet_demo::demo_scene;
 use icet_scene::read::read;
@@ -16,11 +18,17 @@ pub struct Work {
 /// How many small triangles are drawn.
 const MANY: u32 = 1000;
 
-/// How often a shape is drawn over the whole tile.
-const LAYERS: u32 = 64;
+/// How many rows of 1024 pixels a tile has: those of one band, since an image is drawn band by band.
+const ROWS: u32 = 16;
 
-/// How many rows of a tile are drawn by spans.
-const ROWS: u32 = 64;
+/// How often a triangle is drawn over the whole tile.
+const LAYERS: u32 = 1024;
+
+/// How often a row is drawn: so seldom that the paints of all rows stay in a processor's cache, or so often that they
+/// come from memory.
+const FEW: u32 = 4;
+
+const MEMORY: u32 = 256;
 
 /// All that is timed.
 pub fn works(alloc: Global) -> anyhow::Result<Vec<Work>> {
@@ -29,7 +37,8 @@ pub fn works(alloc: Global) -> anyhow::Result<Vec<Work>> {
         tested(alloc)?,
         drawn(alloc)?,
         small(alloc)?,
-        rows(alloc)?,
+        rows(alloc, "a pixel of a row", FEW)?,
+        rows(alloc, "a pixel of a row from memory", MEMORY)?,
     ]?)
 }
 
@@ -42,12 +51,13 @@ fn demonstration(alloc: Global) -> anyhow::Result<Work> {
     })
 }
 
-/// A triangle without an inside, whose box has all pixels of the tile: each is tested and none is drawn.
+/// A sliver along the diagonal in which no pixel's centre lies, and whose box has all pixels of the tile: each is tested
+/// and none is drawn.
 fn tested(alloc: Global) -> anyhow::Result<Work> {
     layered(
         alloc,
         "a pixel tested",
-        "tri 0 0 0 5 1 1 1 255 16376 16376 5 1 1 1 255 16383 16383 5 1 1 1 255\n",
+        "tri 0 0 0 5 1 1 1 255 16383 256 5 1 1 1 255 16384 256 5 1 1 1 255\n",
     )
 }
 
@@ -56,21 +66,21 @@ fn drawn(alloc: Global) -> anyhow::Result<Work> {
     layered(
         alloc,
         "a pixel tested and drawn",
-        "tri 0 -16 -16 5 10 20 30 255 32800 -16 5 90 80 70 255 -16 32800 5 1 2 3 255\n",
+        "tri 0 -16 -16 5 10 20 30 255 32800 -16 5 90 80 70 255 -16 1024 5 1 2 3 255\n",
     )
 }
 
-/// The shape of a line, so often over a tile of 1024 by 1024 pixels that making the image counts for little.
+/// The shape of a line, so often over a tile that making the image counts for little.
 fn layered(alloc: Global, name: &'static str, line: &str) -> anyhow::Result<Work> {
     let mut text = String::new(alloc);
-    text.push_str("icet-scene 1\nmode depth\nranks 1\ntile 0 0 1024 1024 0\n")?;
+    text.push_str("icet-scene 1\nmode depth\nranks 1\ntile 0 0 1024 16 0\n")?;
     for _ in 0..LAYERS {
         text.push_str(line)?;
     }
     text.push_str("end\n")?;
     Ok(Work {
         name,
-        units: u64::from(LAYERS) * 1024 * 1024,
+        units: u64::from(LAYERS) * u64::from(ROWS) * 1024,
         scene: read(alloc, text.as_bytes())?,
     })
 }
@@ -97,20 +107,22 @@ fn small(alloc: Global) -> anyhow::Result<Work> {
     })
 }
 
-/// Rows of 1024 pixels that were drawn elsewhere, one over the other.
-fn rows(alloc: Global) -> anyhow::Result<Work> {
+/// Rows of 1024 pixels that were drawn elsewhere, each over so many others.
+fn rows(alloc: Global, name: &'static str, layers: u32) -> anyhow::Result<Work>
+    requires { layers ≤ 256 }
+{
     let row = row_of(alloc)?;
     let mut text = String::new(alloc);
-    text.push_str("icet-scene 2\nmode depth\nranks 1\ntile 0 0 1024 64 0\n")?;
-    for i in 0..LAYERS * ROWS {
+    text.push_str("icet-scene 2\nmode depth\nranks 1\ntile 0 0 1024 16 0\n")?;
+    for i in 0..layers * ROWS {
         let line = format!(in alloc; "span 0 0 {}", i % ROWS)?;
         text.push_str(line.as_str())?;
         text.push_str(row.as_str())?;
     }
     text.push_str("end\n")?;
     Ok(Work {
-        name: "a pixel of a row",
-        units: u64::from(LAYERS) * u64::from(ROWS) * 1024,
+        name,
+        units: u64::from(layers) * u64::from(ROWS) * 1024,
         scene: read(alloc, text.as_bytes())?,
     })
 }
