@@ -2,7 +2,7 @@
 """Measures the memory of `composite` beside what it has to hold, and how it grows where only blank area does.
 
 The first table has the demonstration's scene at 2, 4, 8 and 16 ranks: the greatest memory in use, beside the fragments that
-the ranks draw (12 bytes each) and the picture (16 bytes a pixel). The second has 64 ranks that each draw one small
+the ranks draw (12 bytes each) and the picture (16 bytes a pixel). The second has 16 ranks by each strategy. The third has 64 ranks that each draw one small
 triangle in the corner of a tile whose sides double: memory and time less those of the picture, which is what one rank
 without shapes takes, stand still where blank area costs nothing.
 It needs the program built once: ./icet composite < examples/one-point.scene
@@ -53,6 +53,10 @@ def demonstration(folder):
         took, peak = run(["composite", "--workers", "1"], path)
         held = (FRAGMENT * drawn(path) + PIXEL * 1920 * 1080) / 1e6
         print(f"{ranks:5}  {peak * 1.048576:7.1f}  {held:24.1f}  {peak * 1.048576 / held:5.2f}  {took:.0f}")
+    print("16 ranks by                        peak MB  ratio")
+    for words in ("--strategy direct", "--k 16", "--k 8", "--strategy sequential --single tree", "--single bswap"):
+        _, peak = run(["composite", "--workers", "1", *words.split()], path)
+        print(f"{words:34} {peak * 1.048576:7.1f}  {peak * 1.048576 / held:5.2f}")
 
 
 def corner(path, ranks, side, draws):
