@@ -4,7 +4,8 @@
 A bug is one line of one function's body changed as somebody might by mistake: a comparison that takes its bound in or leaves
 it out, a sum for a difference, one more or one less, a wrong end of two, a condition turned round. Of all such changes in a
 crate's `src/` so many are drawn by the seed, and `rt must-fail` tries each alone, as it tries the kept wrong bodies; those
-that don't compile count for nothing. It prints each that was proved, with its file and line, and a count for each crate.
+that don't compile or can't be read, and those whose check was stopped, are void. It prints each that was proved, with its file and
+line, and a count for each crate.
 Whether one that was proved is a bug at all is for a reader to tell: some changes leave what the function does as it was.
 
 It works in a clone of the repository that is thrown away afterwards, whose kept wrong bodies it removes. The clone's crates
@@ -97,7 +98,7 @@ def report(crate, planted, text):
     for edit in proved:
         print(f"let through: {planted[edit]}")
     untold = len(planted) - len(said)
-    print(f"{crate}: {len(refused)} refused, {len(proved)} let through, {len(void)} no bugs, {untold} of which nothing was said", flush=True)
+    print(f"{crate}: {len(refused)} refused, {len(proved)} let through, {len(void)} void, {untold} of which nothing was said", flush=True)
 
 
 def main():
